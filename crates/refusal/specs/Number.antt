@@ -1,0 +1,20 @@
+-- Document 01, "When a call is not served": the number of each cause.
+use Prim.Native.Nat.{ℕ}
+use Rattle.refusal.specs.declared.Refusal.{Refusal}
+use Rattle.refusal.specs.declared.Refusal.the-variants.{File, Dimensions, Length, Entry, Row, Cells, Task, Operation, Pending, Idle, Record, Cell, Line}
+
+-- The numbers follow the order of the document's table.
+abbrev pub numberOf : Refusal → ℕ
+numberOf File = 1
+numberOf Dimensions = 2
+numberOf Length = 3
+numberOf Entry = 4
+numberOf Row = 5
+numberOf Cells = 6
+numberOf Task = 7
+numberOf Operation = 8
+numberOf Pending = 9
+numberOf Idle = 10
+numberOf Record = 11
+numberOf Cell = 12
+numberOf Line = 13

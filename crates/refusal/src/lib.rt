@@ -1,0 +1,53 @@
+// The causes for which a call is not served, and document 01's number for each.
+ghost use mathlib.Core.Path.{_≡_};
+ghost use Rattle.refusal.specs.Number.{numberOf};
+
+pub enum Refusal {
+    // The file is too short or too long, or its mark is wrong.
+    File,
+    // The counts of states or operations, or the start state, are out of range.
+    Dimensions,
+    // The offset is too large, or the parts don't add up to the file's length.
+    Length,
+    // A tested entry has a next state that isn't one of the table's states.
+    Entry,
+    // The row has no record, or more than eight.
+    Row,
+    // The cells aren't one more than the records.
+    Cells,
+    // The task's number isn't below the number of tasks.
+    Task,
+    // The operation's number isn't below the number of operations.
+    Operation,
+    // The task has an operation pending already.
+    Pending,
+    // The task has no operation pending.
+    Idle,
+    // The task's record is out of form.
+    Record,
+    // The touched cell is out of form.
+    Cell,
+    // The bench line has no known form, or stands before an accepted start.
+    Line,
+}
+
+// The number that is returned for a cause.
+pub fn number(cause: Refusal) -> u8
+    ensures { λ r. ⌜ r ≡ numberOf cause ⌝ }
+{
+    match cause {
+        Refusal::File => 1,
+        Refusal::Dimensions => 2,
+        Refusal::Length => 3,
+        Refusal::Entry => 4,
+        Refusal::Row => 5,
+        Refusal::Cells => 6,
+        Refusal::Task => 7,
+        Refusal::Operation => 8,
+        Refusal::Pending => 9,
+        Refusal::Idle => 10,
+        Refusal::Record => 11,
+        Refusal::Cell => 12,
+        Refusal::Line => 13,
+    }
+}
