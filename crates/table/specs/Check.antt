@@ -1,0 +1,24 @@
+-- Document 01, "When a call is not served": what the test of a whole table answers, and the answer's number.
+use mathlib.Core.Bool.{cond}
+use mathlib.Core.List.{List}
+use Prim.Native.Nat.{ℕ}
+use Rattle.refusal.specs.declared.Refusal.the-variants.{Entry}
+use Rattle.refusal.specs.Number.{numberOf}
+use Rattle.table.specs.declared.Checked.{Checked}
+use Rattle.table.specs.declared.Checked.the-variants.{Accepted, Refused}
+use Rattle.table.specs.Entries.{entriesInRange}
+use Rattle.table.specs.Layout.{layoutOf}
+
+-- Cause 4, tested on all entries of a file whose causes 1 to 3 gave this answer.
+abbrev pub withEntries : List ℕ → Checked → Checked
+withEntries file (Accepted shape) = cond (entriesInRange file shape) (Accepted shape) (Refused Entry)
+withEntries file (Refused cause) = Refused cause
+
+-- The first of causes 1 to 4 that holds, or the file's shape.
+unfoldable pub checkOf : List ℕ → Checked
+checkOf file = withEntries file (layoutOf file)
+
+-- The document's number of an answer, 0 if the table is accepted.
+abbrev pub numberOfChecked : Checked → ℕ
+numberOfChecked (Accepted shape) = 0
+numberOfChecked (Refused cause) = numberOf cause

@@ -1,0 +1,5 @@
+pub mod Below
+pub mod File
+pub mod Layout
+pub mod Entries
+pub mod Check
