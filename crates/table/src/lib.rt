@@ -3,8 +3,8 @@
 // Every function is total: a byte past the file's end reads as 0, and no number wraps for any argument.
 use refusal::Refusal;
 ghost use mathlib.Core.Path.{_≡_};
-ghost use Prim.Native.Nat.{_<_, _^_};
-ghost use Rattle.table.specs.File.{byteAt, number16, endsInMark, shapeOf};
+ghost use Prim.Native.Nat.{_-_, _*_, _<_, _^_};
+ghost use Rattle.table.specs.File.{byteAt, number16, trailerBytes, endsInMark, shapeOf};
 ghost use Rattle.table.specs.Layout.{fileFits, dimensionsFit, lengthFits, layoutOf};
 ghost use Rattle.table.specs.Entries.{entryOf, entryInRange, operationInRange, entriesInRange, changing};
 ghost use Rattle.table.specs.Check.{checkOf};
@@ -56,6 +56,13 @@ fn wide(byte: u8) -> u16
     byte as u16
 }
 
+// A product that can't wrap: it stays below 2^32.
+fn product(a: u16, b: u16) -> usize
+    ensures { λ r. ⌜ (r ≡ a * b) × (r < 2 ^ 32) ⌝ }
+{
+    (a as usize) * (b as usize)
+}
+
 fn number_at(file: &[u8], at: usize) -> u16
     requires { ⌜ at < 2 ^ 63 ⌝ }
     ensures { λ r. ⌜ r ≡ number16 (now (file .entry)) at ⌝ }
@@ -82,14 +89,22 @@ pub fn ends_in_mark(file: &[u8]) -> bool
     true
 }
 
+// Where the trailer of a file of this length starts; 0 where the file is too short.
+fn trailer_at(length: usize) -> usize
+    ensures { λ r. ⌜ r ≡ length - trailerBytes ⌝ }
+{
+    if length < TRAILER_BYTES {
+        0
+    } else {
+        length - TRAILER_BYTES
+    }
+}
+
 // What the trailer says. It is read from the file's start where the file is too short.
 pub fn read_shape(file: &[u8]) -> Shape
     ensures { λ r. ⌜ r ≡ shapeOf (now (file .entry)) ⌝ }
 {
-    let mut at = 0;
-    if TRAILER_BYTES < file.len() {
-        at = file.len() - TRAILER_BYTES;
-    }
+    let at = trailer_at(file.len());
     let low = number_at(file, at);
     let high = number_at(file, at + 2);
     Shape {
@@ -142,7 +157,7 @@ fn length_fits(length: usize, shape: Shape) -> bool
     if GREATEST_OFFSET < offset {
         return false;
     }
-    let entries = (shape.states as usize) * (shape.operations as usize);
+    let entries = product(shape.states, shape.operations);
     offset as usize + ENTRY_BYTES * entries + TRAILER_BYTES == length
 }
 
@@ -167,7 +182,7 @@ pub fn check_layout(file: &[u8]) -> Checked
 pub fn read_entry(file: &[u8], shape: Shape, state: u16, operation: u16) -> Entry
     ensures { λ r. ⌜ r ≡ entryOf (now (file .entry)) shape state operation ⌝ }
 {
-    let row = (state as usize) * (shape.operations as usize);
+    let row = product(state, shape.operations);
     let place = shape.offset as usize + ENTRY_BYTES * (row + operation as usize);
     Entry {
         next: wide(byte_at(file, place)),
