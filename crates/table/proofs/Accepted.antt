@@ -1,0 +1,82 @@
+-- What an accepted table promises to the calls that use it.
+use Prim.Native.Nat.{ℕ, _<_}
+use mathlib.Core.Path.{_≡_, refl, sym, ap, _∙_}
+use mathlib.Core.Bool.{Bool, true, false, cond}
+use mathlib.Core.List.{List}
+use native.Mathlib.Omega.{arith}
+use borrow.Author.Tests.{ltb-true, lt-ltb}
+use Rattle.refusal.specs.declared.Refusal.the-variants.{Entry}
+use Rattle.table.specs.declared.Shape.{Shape}
+use Rattle.table.specs.declared.Checked.{Checked}
+use Rattle.table.specs.declared.Checked.the-variants.{Accepted, Refused}
+use Rattle.table.specs.Below.{all-at, all-of}
+use Rattle.table.specs.File.{byteAt}
+use Rattle.table.specs.Entries.{entryPlace, entryOf, entryInRange, operationInRange, entriesInRange}
+use Rattle.table.specs.Layout.{layoutOf}
+use Rattle.table.specs.Check.{withEntries, checkOf}
+use Rattle.table.proofs.Fitting.{Fitting, layout-fitting, taken, refused}
+
+-- Every element of the list is a byte.
+abbrev pub Bytes : List ℕ → Type 0
+Bytes file = (at : ℕ) → byteAt file at < 256
+
+module _ (file : List ℕ) (shape : Shape) where
+  -- One tested entry: its next state is one of the table's states.
+  pub next-below : (state operation : ℕ) → entryInRange file shape state operation ≡ true → entryOf file shape state operation .next < shape .states
+  unfolding entryInRange
+  next-below state operation e = ltb-true _ _ e
+
+  pub below-next : (state operation : ℕ) → entryOf file shape state operation .next < shape .states → entryInRange file shape state operation ≡ true
+  unfolding entryInRange
+  below-next state operation h = lt-ltb _ _ h
+
+  -- The entries of an operation that was tested.
+  pub operation-entry : (operation : ℕ) → operationInRange file shape operation ≡ true → (state : ℕ) → state < shape .states → entryInRange file shape state operation ≡ true
+  unfolding operationInRange
+  operation-entry operation e state q = all-at _ _ e state q
+
+  -- The operations of a table that was tested.
+  pub entries-operation : entriesInRange file shape ≡ true → (operation : ℕ) → operation < shape .operations → operationInRange file shape operation ≡ true
+  unfolding entriesInRange
+  entries-operation e operation o = all-at _ _ e operation o
+
+  parts : (layout : Checked) → withEntries file layout ≡ Accepted shape → (layout ≡ Accepted shape) × (entriesInRange file shape ≡ true)
+  parts (Accepted found) e =
+      let t = taken (entriesInRange file found) _ _ _ e (refused Entry shape) in
+      let i : found ≡ shape = cc (t .1) in
+      (t .1, sym (ap (entriesInRange file) i) ∙ t .0)
+  parts (Refused cause) e = absurd (refused cause shape e)
+
+  -- A table is accepted exactly if its layout is, with the same shape, and all its entries are in range.
+  pub accepted-parts : checkOf file ≡ Accepted shape → (layoutOf file ≡ Accepted shape) × (entriesInRange file shape ≡ true)
+  unfolding checkOf
+  accepted-parts e = parts (layoutOf file) e
+
+  pub parts-accepted : layoutOf file ≡ Accepted shape → entriesInRange file shape ≡ true → checkOf file ≡ Accepted shape
+  unfolding checkOf
+  parts-accepted l e = simp (l, e)
+
+  module _ (accepted : checkOf file ≡ Accepted shape) where
+    -- None of causes 1 to 3 holds: the ranges of the dimensions, and the shape that the trailer says.
+    pub accepted-fitting : Fitting file shape
+    accepted-fitting = layout-fitting file shape (accepted-parts accepted .0)
+
+    -- Cause 4 holds on no operation's entries, and on no entry.
+    pub accepted-operation : (operation : ℕ) → operation < shape .operations → operationInRange file shape operation ≡ true
+    accepted-operation operation o = entries-operation (accepted-parts accepted .1) operation o
+
+    pub accepted-entry : (state operation : ℕ) → state < shape .states → operation < shape .operations → entryInRange file shape state operation ≡ true
+    accepted-entry state operation q o = operation-entry operation (accepted-operation operation o) state q
+
+    -- Every next state is one of the table's states.
+    pub accepted-next : (state operation : ℕ) → state < shape .states → operation < shape .operations → entryOf file shape state operation .next < shape .states
+    accepted-next state operation q o = next-below state operation (accepted-entry state operation q o)
+
+  -- An entry holds two bytes.
+  pub next-byte : Bytes file → (state operation : ℕ) → entryOf file shape state operation .next < 256
+  unfolding entryOf
+  next-byte bytes state operation = bytes _
+
+  pub response-byte : Bytes file → (state operation : ℕ) → entryOf file shape state operation .response < 256
+  unfolding entryOf
+  response-byte bytes state operation = bytes _

@@ -1,0 +1,103 @@
+-- What it means that a file's length, mark and trailer are accepted.
+use Prim.Native.Nat.{ℕ, suc, _+_, _-_, _*_, _<_, _≤_}
+use mathlib.Core.Path.{_≡_, refl, sym, ap, subst, _∙_}
+use mathlib.Core.Bool.{Bool, true, false, cond, _&&_, and-eq-true-iff}
+use mathlib.Core.List.{List}
+use native.Mathlib.Omega.{arith}
+use native.Mathlib.Nat.{mul-le-mul-right, suc-mul}
+use borrow.Author.Tests.{leb-true, ltb-true, eqb-true, le-leb, lt-ltb, eq-eqb}
+use lib.Dec.{leb, ltb, eqb}
+use lib.ListN.{length}
+use Rattle.refusal.specs.declared.Refusal.{Refusal}
+use Rattle.refusal.specs.declared.Refusal.the-variants.{File, Dimensions, Length}
+use Rattle.table.specs.declared.Shape.{Shape}
+use Rattle.table.specs.declared.Checked.{Checked}
+use Rattle.table.specs.declared.Checked.the-variants.{Accepted, Refused}
+use Rattle.table.specs.File.{endsInMark, shapeOf, trailerBytes}
+use Rattle.table.specs.Entries.{entryBytes, entryPlace}
+use Rattle.table.specs.Layout.{longestFile, mostStates, mostOperations, greatestOffset, fileFits, dimensionsFit, lengthFits, layoutOf}
+
+-- The negations of causes 1 to 3, one by one, for a file and its shape.
+pub record Fitting (file : List ℕ) (shape : Shape) : Type 0 where
+  pub shape-is : shape ≡ shapeOf file
+  pub not-short : trailerBytes ≤ length file
+  pub not-long : length file ≤ longestFile
+  pub marked : endsInMark file ≡ true
+  pub some-state : 1 ≤ shape .states
+  pub few-states : shape .states ≤ mostStates
+  pub some-operation : 1 ≤ shape .operations
+  pub few-operations : shape .operations ≤ mostOperations
+  pub start-below : shape .start < shape .states
+  pub little-text : shape .offset ≤ greatestOffset
+  pub adds-up : shape .offset + entryBytes * (shape .states * shape .operations) + trailerBytes ≡ length file
+
+both : {a b : Bool} → a && b ≡ true → (a ≡ true) × (b ≡ true)
+both {a} {b} e = and-eq-true-iff a b .0 e
+
+-- A choice that came out as its second part does not was decided by the test.
+pub taken : {X : Type 0} (b : Bool) (x y z : X) → cond b x y ≡ z → (y ≡ z → ⊥) → (b ≡ true) × (x ≡ z)
+taken true x y z e other = (refl, e)
+taken false x y z e other = absurd (other e)
+
+-- No refusal is an acceptance.
+pub refused : (cause : Refusal) (shape : Shape) → Refused cause ≡ Accepted shape → ⊥
+refused cause shape e = let z : _≡_ {A = ℕ} 0 1 = cc in omega arith
+
+module _ (file : List ℕ) (shape : Shape) where
+  file-parts : fileFits file ≡ true → (trailerBytes ≤ length file) × ((length file ≤ longestFile) × (endsInMark file ≡ true))
+  unfolding fileFits
+  file-parts e =
+      let p = both e in
+      let q = both (p .0) in
+      (leb-true _ _ (q .0), (leb-true _ _ (q .1), p .1))
+
+  dimension-parts : dimensionsFit shape ≡ true → ((1 ≤ shape .states) × (shape .states ≤ mostStates)) × ((1 ≤ shape .operations) × ((shape .operations ≤ mostOperations) × (shape .start < shape .states)))
+  unfolding dimensionsFit
+  dimension-parts e =
+      let p = both e in
+      let q = both (p .0) in
+      let r = both (q .0) in
+      let s = both (r .0) in
+      ((leb-true _ _ (s .0), leb-true _ _ (s .1)), (leb-true _ _ (r .1), (leb-true _ _ (q .1), ltb-true _ _ (p .1))))
+
+  length-parts : lengthFits (length file) shape ≡ true → (shape .offset ≤ greatestOffset) × (shape .offset + entryBytes * (shape .states * shape .operations) + trailerBytes ≡ length file)
+  unfolding lengthFits
+  length-parts e =
+      let p = both e in
+      (leb-true _ _ (p .0), eqb-true _ _ (p .1))
+
+  -- An accepted layout means that none of causes 1 to 3 holds.
+  pub layout-fitting : layoutOf file ≡ Accepted shape → Fitting file shape
+  unfolding layoutOf
+  layout-fitting e =
+      let f = taken (fileFits file) _ _ _ e (refused File shape) in
+      let d = taken (dimensionsFit (shapeOf file)) _ _ _ (f .1) (refused Dimensions shape) in
+      let l = taken (lengthFits (length file) (shapeOf file)) _ _ _ (d .1) (refused Length shape) in
+      let i : shape ≡ shapeOf file = cc (l .1) in
+      let a = file-parts (f .0) in
+      let b = dimension-parts (ap dimensionsFit i ∙ d .0) in
+      let k = length-parts (ap (lengthFits (length file)) i ∙ l .0) in
+      record
+        { shape-is = i
+        ; not-short = a .0
+        ; not-long = a .1 .0
+        ; marked = a .1 .1
+        ; some-state = b .0 .0
+        ; few-states = b .0 .1
+        ; some-operation = b .1 .0
+        ; few-operations = b .1 .1 .0
+        ; start-below = b .1 .1 .1
+        ; little-text = k .0
+        ; adds-up = k .1
+        }
+
+  -- A layout for which none of causes 1 to 3 holds is accepted.
+  pub fitting-layout : Fitting file shape → layoutOf file ≡ Accepted shape
+  unfolding layoutOf fileFits dimensionsFit lengthFits
+  fitting-layout t =
+      simp (sym (t .shape-is), le-leb _ _ (t .not-short), le-leb _ _ (t .not-long), t .marked, le-leb _ _ (t .some-state), le-leb _ _ (t .few-states), le-leb _ _ (t .some-operation), le-leb _ _ (t .few-operations), lt-ltb _ _ (t .start-below), le-leb _ _ (t .little-text), eq-eqb _ _ (t .adds-up))
+
+  -- Every entry of the table lies in the file, before the trailer.
+  pub entry-inside : Fitting file shape → (state operation : ℕ) → state < shape .states → operation < shape .operations → entryPlace shape state operation + entryBytes + trailerBytes ≤ length file
+  entry-inside t state operation q o =
+      omega (arith, t .adds-up, suc-mul state (shape .operations), mul-le-mul-right {m = suc state} (shape .operations) q)

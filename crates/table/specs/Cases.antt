@@ -1,0 +1,70 @@
+-- Document 01, "Cases": the marked cases about the object file, as one table. The case of the row's records stands with
+-- the row, those of the image, the forms and the ceiling with the cells.
+use Prim.Native.Nat.{ℕ, _*_, _/_, _%_}
+use mathlib.Core.Path.{_≡_, refl}
+use mathlib.Core.Bool.{Bool, cond}
+use mathlib.Core.List.{List, [], _∷_, _++_, map}
+use lib.ListN.{replicate, drop, set}
+use Rattle.table.specs.Below.{allBelow, anyBelow}
+use Rattle.table.specs.File.{endsInMark, shapeOf}
+use Rattle.table.specs.Entries.{entryOf, entryInRange, operationInRange, entriesInRange, changing}
+use Rattle.table.specs.Layout.{fileFits, dimensionsFit, lengthFits, layoutOf}
+use Rattle.table.specs.Check.{checkOf, numberOfChecked}
+
+-- The flag object's entries.
+abbrev flagEntries : List ℕ
+flagEntries = 0x00 ∷ 0x00 ∷ 0x01 ∷ 0x00 ∷ 0x00 ∷ 0x00 ∷ 0x01 ∷ 0x01 ∷ 0x01 ∷ 0x01 ∷ 0x00 ∷ 0x01 ∷ []
+
+-- The flag object's trailer.
+abbrev flagTrailer : List ℕ
+flagTrailer =
+    0x00 ∷ 0x00 ∷ 0x00 ∷ 0x00 ∷ 0x02 ∷ 0x00 ∷ 0x03 ∷ 0x00 ∷ 0x00 ∷ 0x00 ∷ 0x44 ∷ 0x52 ∷ 0x49 ∷ 0x56 ∷ 0x45 ∷ 0x31 ∷ []
+
+-- The flag object's file.
+unfoldable pub flag : List ℕ
+flag = flagEntries ++ flagTrailer
+
+-- A file of so many states and operations in which every entry is 0.
+blank : ℕ → ℕ → List ℕ
+blank states operations =
+    replicate (2 * states * operations) 0 ++ set (set (set flagTrailer 4 (states % 256)) 5 (states / 256)) 6 operations
+
+-- The number that check answers.
+number : List ℕ → ℕ
+number file = numberOfChecked (checkOf file)
+
+-- 1 if an operation of a file is changing, 0 if it is reading.
+changes : List ℕ → ℕ → ℕ
+changes file operation = cond (changing file (shapeOf file) operation) 1 0
+
+-- A case: what the definitions give, and what the document says.
+pub record Case : Type 0 where
+  pub given : ℕ
+  pub said : ℕ
+
+case : ℕ → ℕ → Case
+case given said = record { given = given; said = said }
+
+pub cases : List Case
+cases =
+    -- A file of 15 bytes.
+    case (number (drop 13 flag)) 1
+    -- 256 states pass, 257 do not.
+    ∷ case (number (blank 256 1)) 0
+    ∷ case (number (blank 257 1)) 2
+    -- 32 operations pass, 33 do not.
+    ∷ case (number (blank 1 32)) 0
+    ∷ case (number (blank 1 33)) 2
+    -- The flag file with offset 1.
+    ∷ case (number (set flag 12 1)) 3
+    -- Next state 1 passes with 2 states, next state 2 does not.
+    ∷ case (number flag) 0
+    ∷ case (number (set flag 8 2)) 4
+    -- The flag's operation 2 is changing, 0 is reading.
+    ∷ case (changes flag 2) 1
+    ∷ case (changes flag 0) 0
+    ∷ []
+
+pub cases-hold : map (λ c. c .given) cases ≡ map (λ c. c .said) cases
+unfolding cases case flag blank number changes checkOf layoutOf fileFits dimensionsFit lengthFits entriesInRange operationInRange entryInRange entryOf changing endsInMark shapeOf allBelow anyBelow
+cases-hold = refl
