@@ -9,15 +9,19 @@ fn print_field(n: u16) {
     io::print_decimal(1, n as u64);
 }
 
+fn print_flag(changing: bool) {
+    if changing {
+        io::write_all(1, b"1");
+    } else {
+        io::write_all(1, b"0");
+    }
+}
+
 fn print_changing(file: &[u8], shape: Shape) {
     let operations = shape.operations;
     let mut operation: u16 = 0;
     while operation < operations {
-        if table::is_changing(file, shape, operation) {
-            io::write_all(1, b"1");
-        } else {
-            io::write_all(1, b"0");
-        }
+        print_flag(table::is_changing(file, shape, operation));
         operation += 1;
     }
 }

@@ -77,19 +77,19 @@ module _ (file : List ℕ) (shape : Shape) where
       let a = file-parts (f .0) in
       let b = dimension-parts (ap dimensionsFit i ∙ d .0) in
       let k = length-parts (ap (lengthFits (length file)) i ∙ l .0) in
-      record
-        { shape-is = i
-        ; not-short = a .0
-        ; not-long = a .1 .0
-        ; marked = a .1 .1
-        ; some-state = b .0 .0
-        ; few-states = b .0 .1
-        ; some-operation = b .1 .0
-        ; few-operations = b .1 .1 .0
-        ; start-below = b .1 .1 .1
-        ; little-text = k .0
-        ; adds-up = k .1
-        }
+      record {
+        shape-is = i;
+        not-short = a .0;
+        not-long = a .1 .0;
+        marked = a .1 .1;
+        some-state = b .0 .0;
+        few-states = b .0 .1;
+        some-operation = b .1 .0;
+        few-operations = b .1 .1 .0;
+        start-below = b .1 .1 .1;
+        little-text = k .0;
+        adds-up = k .1;
+      }
 
   -- A layout for which none of causes 1 to 3 holds is accepted.
   pub fitting-layout : Fitting file shape → layoutOf file ≡ Accepted shape

@@ -1,55 +1,35 @@
+-- Nothing is promised of what is printed; the loop ends.
+use Prim.Native.Nat.{_≤_, _-_}
+use borrow.Author.Needs.{needs}
 use Rattle.check_table.proofs.print_changing.Statement.{statement}
 use Rattle.check_table.proofs.print_changing.Tie as tie
-use Rattle.check_table.proofs.print_changing.Reads as reads
-use Rattle.check_table.proofs.print_changing.Lts as lts
-use Rattle.io.proofs.write_all.Reads as write-all-reads
-use Rattle.table.proofs.is_changing.Reads as is-changing-reads
 
 abbrev Inv-loop : tie.InvT-loop
-Inv-loop file shape operations operation₀ t5 t6 operation = ?
+Inv-loop file shape operations operation₀ operation = operation ≤ operations
 
 abbrev μ-loop : tie.MeasureT-loop
-μ-loop file shape operations operation₀ t5 t6 operation = ?
+μ-loop file shape operations operation₀ operation = operations - operation
 
--- src/main.rt:15:5
 loop-holds : tie.Need-loop-holds Inv-loop μ-loop
-loop-holds c = ?
+loop-holds c = search needs
 
--- src/main.rt:16:12
 is-changing-requires : tie.Need-is-changing-requires Inv-loop μ-loop
-is-changing-requires c κs = ?
+is-changing-requires c κs = search needs
 
--- src/main.rt:17:30
-slice-aggregate-write-all : tie.Need-slice-aggregate-write-all Inv-loop μ-loop
-slice-aggregate-write-all c = ?
+print-flag-requires : tie.Need-print-flag-requires Inv-loop μ-loop
+print-flag-requires c κs = search needs
 
--- src/main.rt:17:13
-write-all-requires : tie.Need-write-all-requires Inv-loop μ-loop
-write-all-requires c κs = ?
-
--- src/main.rt:19:30
-slice-aggregate-write-all-2 : tie.Need-slice-aggregate-write-all-2 Inv-loop μ-loop
-slice-aggregate-write-all-2 c = ?
-
--- src/main.rt:19:13
-write-all-requires-2 : tie.Need-write-all-requires-2 Inv-loop μ-loop
-write-all-requires-2 c κs = ?
-
--- src/main.rt:21:9
 add-operation : tie.Need-add-operation Inv-loop μ-loop
-add-operation c = ?
+add-operation c = search needs
 
--- src/main.rt:15:5
 loop-less : tie.Need-loop-less Inv-loop μ-loop
-loop-less c = ?
+loop-less c = search needs
 
--- src/main.rt:15:5
 loop-again : tie.Need-loop-again Inv-loop μ-loop
-loop-again c = ?
+loop-again c = search needs
 
--- src/main.rt:12:1
 returns : tie.Need-returns Inv-loop μ-loop
-returns c = ?
+returns c = search needs
 
 pub print-changing-spec : {M : Type 1} → statement M
 print-changing-spec =
@@ -59,10 +39,7 @@ print-changing-spec =
     μ-loop
     loop-holds
     is-changing-requires
-    slice-aggregate-write-all
-    write-all-requires
-    slice-aggregate-write-all-2
-    write-all-requires-2
+    print-flag-requires
     add-operation
     loop-less
     loop-again
