@@ -1,0 +1,1 @@
+// The 64-bit words that the tasks share.
