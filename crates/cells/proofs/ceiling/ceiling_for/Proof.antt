@@ -1,6 +1,6 @@
 use borrow.Author.Tests.{le-leb, lt-leb}
-use Rattle.cells.specs.Ceiling.{ceilingOf}
 use borrow.Author.Needs.{needs}
+use Rattle.cells.specs.Ceiling.{ceilingOf}
 use Rattle.cells.proofs.ceiling.ceiling_for.Statement.{statement}
 use Rattle.cells.proofs.ceiling.ceiling_for.Tie as tie
 

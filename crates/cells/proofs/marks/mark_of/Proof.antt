@@ -1,13 +1,13 @@
-use borrow.Author.Tests.{lt-ltb, le-ltb, eqb-true}
 use mathlib.Core.Bool.{Bool}
 use mathlib.Core.List.{List, [], _∷_}
-use mathlib.Core.Path.{_≡_, refl}
+use mathlib.Core.Path.{refl}
 use Prim.Native.Nat.{ℕ, _^_}
+use borrow.Author.Tests.{lt-ltb, le-ltb, eqb-true}
+use borrow.Author.Needs.{needs}
 use lib.Dec.{eqb}
 use lib.ListN.{getD}
-use Rattle.cells.proofs.Tests.{holds-at}
 use Rattle.cells.specs.Layout.{markOf}
-use borrow.Author.Needs.{needs}
+use Rattle.cells.proofs.Tests.{holds-at}
 use Rattle.cells.proofs.marks.mark_of.Statement.{statement}
 use Rattle.cells.proofs.marks.mark_of.Tie as tie
 
