@@ -1,0 +1,11 @@
+pub mod Tests
+pub mod Fields
+pub mod Codec
+pub mod Forms
+pub mod HeadLaws
+pub mod AnnouncementLaws
+pub mod WordMarks
+pub mod Images
+pub mod Counts
+pub mod Ceilings
+pub mod Cases

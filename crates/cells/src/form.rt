@@ -1,0 +1,67 @@
+// Which words are in form.
+use crate::layout;
+use crate::marks;
+ghost use mathlib.Core.Path.{_≡_};
+ghost use Rattle.cells.specs.Form.{headInForm, announcementInForm, marksInForm};
+
+// The largest number that a holder field may have.
+const HOLDER_BOUND: u64 = 8;
+
+// Whether a word has marks of tasks below `tasks` alone.
+fn marks_in_form(word: u64, tasks: usize) -> bool
+    ensures { λ r. ⌜ r ≡ marksInForm tasks word ⌝ }
+{
+    if tasks < layout::MARK_COUNT {
+        return word % layout::MARKS_SIZE < marks::mark_of(tasks);
+    }
+    true
+}
+
+// Whether a head is in form, for a table with `states` states.
+pub fn head_in_form(word: u64, states: u32, tasks: usize) -> bool
+    ensures { λ r. ⌜ r ≡ headInForm states tasks word ⌝ }
+{
+    let state = word / layout::STATE_PLACE % layout::STATE_SIZE;
+    let response = word / layout::RESPONSE_PLACE % layout::RESPONSE_SIZE;
+    let holder = word / layout::HOLDER_PLACE % layout::HOLDER_SIZE;
+    if word >= layout::HEAD_SIZE {
+        return false;
+    }
+    if !marks_in_form(word, tasks) {
+        return false;
+    }
+    if state >= states as u64 {
+        return false;
+    }
+    if holder > HOLDER_BOUND {
+        return false;
+    }
+    if holder == 0 {
+        return response == 0;
+    }
+    true
+}
+
+// Whether an announcement is in form, for a table with `operations` operations.
+pub fn announcement_in_form(word: u64, operations: u32, tasks: usize) -> bool
+    ensures { λ r. ⌜ r ≡ announcementInForm operations tasks word ⌝ }
+{
+    let kind = word / layout::KIND_PLACE % layout::KIND_SIZE;
+    let gap = word / layout::GAP_PLACE % layout::GAP_SIZE;
+    let payload = word / layout::PAYLOAD_PLACE % layout::PAYLOAD_SIZE;
+    if word >= layout::ANNOUNCEMENT_SIZE {
+        return false;
+    }
+    if !marks_in_form(word, tasks) {
+        return false;
+    }
+    if gap != 0 {
+        return false;
+    }
+    match kind {
+        0 => payload == 0,
+        1 => payload < operations as u64,
+        2 => true,
+        _ => false,
+    }
+}
