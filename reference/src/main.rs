@@ -2,37 +2,49 @@
 
 mod ceiling;
 mod cells;
+mod compare_tables;
+mod process;
 mod random;
 mod refusal;
 mod table;
+mod table_cases;
 mod table_file;
 
 use std::io::Read;
 use std::process::ExitCode;
 
-const USAGE: &str = "usage: reference check-table < FILE";
+const USAGE: &str = "usage: reference check-table < FILE
+       reference compare-tables PATH_TO_check_table";
 
 fn main() -> ExitCode {
     let arguments: Vec<String> = std::env::args().skip(1).collect();
     let words: Vec<&str> = arguments.iter().map(String::as_str).collect();
-    match words.as_slice() {
+    let result = match words.as_slice() {
         ["check-table"] => check_table(),
-        _ => {
-            eprintln!("{USAGE}");
+        ["compare-tables", program] => compare_tables::compare_tables(program).map(print_line),
+        _ => Err(USAGE.to_string()),
+    };
+    match result {
+        Ok(()) => ExitCode::SUCCESS,
+        Err(message) => {
+            eprintln!("{message}");
             ExitCode::FAILURE
         }
     }
 }
 
+fn print_line(line: String) {
+    println!("{line}");
+}
+
 /// Does what the program `check_table` does.
-fn check_table() -> ExitCode {
+fn check_table() -> Result<(), String> {
     let mut file = Vec::new();
     let most = table::MOST_FILE_BYTES as u64 + 1;
-    match std::io::stdin().take(most).read_to_end(&mut file) {
-        Ok(_) => {
-            print!("{}", table::check_report(&file));
-            ExitCode::SUCCESS
-        }
-        Err(_) => ExitCode::FAILURE,
-    }
+    std::io::stdin()
+        .take(most)
+        .read_to_end(&mut file)
+        .map_err(|error| error.to_string())?;
+    print!("{}", table::check_report(&file));
+    Ok(())
 }
