@@ -23,6 +23,7 @@ pub struct Table {
     pub operations: usize,
     pub start: usize,
     entries: Vec<Entry>,
+    changing: Vec<bool>,
 }
 
 /// The fields of the last 16 bytes, before the mark.
@@ -41,11 +42,16 @@ impl Table {
         test_length(&trailer, file.len())?;
         let first = trailer.offset as usize;
         let last = file.len() - TRAILER_BYTES;
+        let entries = read_entries(&file[first..last]);
+        let changing = (0..trailer.operations)
+            .map(|operation| changes_some_state(&entries, trailer.operations, operation))
+            .collect();
         Ok(Table {
             states: trailer.states,
             operations: trailer.operations,
             start: trailer.start,
-            entries: read_entries(&file[first..last]),
+            entries,
+            changing,
         })
     }
 
@@ -76,9 +82,8 @@ impl Table {
         (0..self.operations).try_for_each(|operation| self.test_operation_entries(operation))
     }
 
-    /// An operation is changing if in some state of the table its next state is another one.
     pub fn is_changing(&self, operation: usize) -> bool {
-        (0..self.states).any(|state| usize::from(self.entry(state, operation).next) != state)
+        self.changing[operation]
     }
 }
 
@@ -126,6 +131,14 @@ fn read_entries(bytes: &[u8]) -> Vec<Entry> {
         response: u16::from(pair[1]),
     };
     bytes.chunks_exact(ENTRY_BYTES).map(entry).collect()
+}
+
+/// An operation is changing if in some state of the table its next state is another one.
+fn changes_some_state(entries: &[Entry], operations: usize, operation: usize) -> bool {
+    let of_state = entries.chunks_exact(operations).enumerate();
+    of_state
+        .map(|(state, row)| (state, row[operation]))
+        .any(|(state, entry)| usize::from(entry.next) != state)
 }
 
 /// What the program `check_table` prints for a file.
