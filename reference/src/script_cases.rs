@@ -12,25 +12,41 @@ pub struct Script {
     pub input: Vec<u8>,
 }
 
+const LISTING: &str = "n 2\nb 0 1\nd 0\nb 1 0\ns 1\nb 1 2\nm\nd 1\nm\n";
+
 /// The cases of document 01 and the forms of lines, mostly over the flag object.
 pub fn fixed_scripts() -> Vec<Script> {
-    let flag = TableFile::flag();
-    let with_text = |length: usize| flag.clone().with_text(vec![b'#'; length]).to_bytes();
-    let listing = "n 2\nb 0 1\nd 0\nb 1 0\ns 1\nb 1 2\nm\nd 1\nm\n";
-    let mut scripts = vec![
+    let flag = TableFile::flag().to_bytes();
+    let mut scripts = table_scripts();
+    for (name, input) in flag_inputs() {
+        scripts.push(script(name, Some(flag.clone()), &input));
+    }
+    scripts
+}
+
+/// Tables that are absent, empty, too long, or at the limit of their text.
+fn table_scripts() -> Vec<Script> {
+    let with_text = |length: usize| TableFile::flag().with_text(vec![b'#'; length]).to_bytes();
+    vec![
         script("absent table", None, "n 1\nm\n"),
         script("absent table, no input", None, ""),
         script("empty table", Some(Vec::new()), "n 1\n"),
-        script("offset 4096", Some(with_text(4_096)), listing),
-        script("offset 4097", Some(with_text(4_097)), listing),
-        script("table of 20497 bytes", Some(vec![0; 20_497]), listing),
-        script("table of 30000 bytes", Some(vec![0; 30_000]), listing),
-    ];
-    let inputs = [
-        ("flag listing", listing.to_string()),
+        script("offset 4096", Some(with_text(4_096)), LISTING),
+        script("offset 4097", Some(with_text(4_097)), LISTING),
+        script("table of 20497 bytes", Some(vec![0; 20_497]), LISTING),
+        script("table of 30000 bytes", Some(vec![0; 30_000]), LISTING),
+    ]
+}
+
+fn flag_inputs() -> Vec<(&'static str, String)> {
+    let starts = "m\ns 0\nn 0\nm\nn 9\nn 256\nn 999\nn 1000\nn 8\nm\nn 0\nm\nn 01\nm";
+    let large = "n 2\nb 256 0\nb 0 256\nb 999 999\ns 256\nd 258\nb 002 001\nb 001 001\nd 01\n";
+    let alone = "n 1\nb 0 1\nd 0\nm\nb 0 0\nd 0\nb 0 2\nd 0\nm\n";
+    vec![
+        ("flag listing", LISTING.to_string()),
         (
             "flag listing without its last byte",
-            listing.trim_end().to_string(),
+            LISTING.trim_end().to_string(),
         ),
         ("no input", String::new()),
         ("begin twice", "n 2\nb 0 1\nb 0 1\nb 0 0\nm\nd 0\nm\n".to_string()),
@@ -38,28 +54,15 @@ pub fn fixed_scripts() -> Vec<Script> {
             "step when idle",
             "n 2\ns 0\nd 0\ns 1\nd 1\ns 2\nd 2\nm\n".to_string(),
         ),
-        (
-            "one task alone",
-            "n 1\nb 0 1\nd 0\nm\nb 0 0\nd 0\nb 0 2\nd 0\nm\n".to_string(),
-        ),
+        ("one task alone", alone.to_string()),
         ("every step of one task", every_step_of_one_task()),
-        (
-            "starts",
-            "m\ns 0\nn 0\nm\nn 9\nn 256\nn 999\nn 1000\nn 8\nm\nn 0\nm\nn 01\nm".to_string(),
-        ),
-        (
-            "large numbers",
-            "n 2\nb 256 0\nb 0 256\nb 999 999\ns 256\nd 258\nb 002 001\nb 001 001\nd 01\n".to_string(),
-        ),
+        ("starts", starts.to_string()),
+        ("large numbers", large.to_string()),
         ("forms of lines", forms_of_lines()),
         ("long lines", long_lines()),
         ("empty lines", "\n\nn 1\n\nm\n\n".to_string()),
         ("one empty line", "\n".to_string()),
-    ];
-    for (name, input) in inputs {
-        scripts.push(script(name, Some(flag.to_bytes()), &input));
-    }
-    scripts
+    ]
 }
 
 fn script(name: &str, table: Option<Vec<u8>>, input: &str) -> Script {
