@@ -7,3 +7,4 @@ pub mod Run
 pub mod Book
 pub mod History
 pub mod Invariant
+pub mod Potential

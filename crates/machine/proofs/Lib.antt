@@ -1,0 +1,4 @@
+pub mod Update
+pub mod Effect
+pub mod Branch
+pub mod Branches
