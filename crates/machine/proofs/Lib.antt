@@ -2,3 +2,4 @@ pub mod Update
 pub mod Effect
 pub mod Branch
 pub mod Branches
+pub mod Moved

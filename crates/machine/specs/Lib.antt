@@ -6,5 +6,6 @@ pub mod Kind
 pub mod Run
 pub mod Book
 pub mod History
+pub mod Keeping
 pub mod Invariant
 pub mod Potential
