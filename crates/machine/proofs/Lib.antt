@@ -1,0 +1,5 @@
+pub mod Update
+pub mod Lists
+pub mod Replay
+pub mod Kept
+pub mod Linearization
