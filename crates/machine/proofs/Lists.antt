@@ -7,6 +7,10 @@ use native.Mathlib.Omega.{arith}
 use lib.ListN.{length}
 use Rattle.machine.specs.History.{At, here, later}
 
+-- The element y stands at place i of a list, or it is x, at the place after the list.
+abbrev pub Either : {A : Type 0} → List A → A → ℕ → A → Type 0
+Either xs x i y = At xs i y ⊎ ((i ≡ length xs) × (y ≡ x))
+
 module _ {A : Type 0} where
   -- One element stands at a place.
   pub at-same : {xs : List A} {i : ℕ} {x y : A} → At xs i x → At xs i y → x ≡ y
@@ -33,11 +37,11 @@ module _ {A : Type 0} where
   at-next (_ ∷ xs) x ys = later (at-next xs x ys)
 
   -- An element of a list with one more at its end stands in the list, or is the last one.
-  pub at-either : (xs : List A) (x : A) {i : ℕ} {y : A} → At (xs ++ (x ∷ [])) i y → At xs i y ⊎ ((i ≡ length xs) × (y ≡ x))
+  pub at-either : (xs : List A) (x : A) {i : ℕ} {y : A} → At (xs ++ (x ∷ [])) i y → Either xs x i y
   at-either [] x here = inr (refl, refl)
   at-either (_ ∷ xs) x here = inl here
   at-either (z ∷ xs) x (later {x = y} {i = i} a) = go (at-either xs x a)
     where
-      go : At xs i y ⊎ ((i ≡ length xs) × (y ≡ x)) → At (z ∷ xs) (suc i) y ⊎ ((suc i ≡ suc (length xs)) × (y ≡ x))
+      go : Either xs x i y → Either (z ∷ xs) x (suc i) y
       go (inl h) = inl (later h)
       go (inr e) = inr (ap suc (e .0), e .1)
