@@ -3,3 +3,8 @@ pub mod Effect
 pub mod Branch
 pub mod Branches
 pub mod Moved
+pub mod Lists
+pub mod Replay
+pub mod Kept
+pub mod Agreement
+pub mod Linearization
