@@ -3,3 +3,4 @@ pub mod Effect
 pub mod Branch
 pub mod Branches
 pub mod Moved
+pub mod Calls
