@@ -4,3 +4,4 @@ pub mod Branch
 pub mod Branches
 pub mod Moved
 pub mod Calls
+pub mod Rely
