@@ -5,3 +5,4 @@ pub mod Branches
 pub mod Moved
 pub mod Calls
 pub mod Rely
+pub mod Own
