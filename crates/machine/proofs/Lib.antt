@@ -6,3 +6,4 @@ pub mod Moved
 pub mod Calls
 pub mod Rely
 pub mod Own
+pub mod Stable
