@@ -7,3 +7,4 @@ pub mod Calls
 pub mod Rely
 pub mod Own
 pub mod Stable
+pub mod Safety
