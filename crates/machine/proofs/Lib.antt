@@ -8,3 +8,4 @@ pub mod Rely
 pub mod Own
 pub mod Stable
 pub mod Safety
+pub mod Formed
