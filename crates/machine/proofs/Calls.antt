@@ -1,5 +1,5 @@
 -- What a call does, by its tests: one case for each outcome, with the facts that the tests found.
-use mathlib.Core.Path.{_≡_, refl, sym, _∙_, ap}
+use mathlib.Core.Path.{_≡_, refl}
 use mathlib.Core.Bool.{Bool, true, false}
 use Prim.Native.Nat.{ℕ, _<_}
 use native.Mathlib.Omega.{arith}
@@ -9,7 +9,7 @@ use Rattle.refusal.specs.declared.Refusal.the-variants as cause
 use Rattle.machine.specs.Object.{Object}
 use Rattle.machine.specs.Machine.{Phase, Idle, ReadOnly, Announce, Poll, LoadHead, LinkHead, LoadPriority, LoadOwn, Apply, ReloadApply, LoadHelped, LinkHelped, Validate, HandOver, ReloadHandOver, Release, ReloadRelease, ClearHead, ReloadClear, LoadExit, LinkExit, ClearExit, ReleaseExit, Retract, Next, pick}
 use Rattle.machine.specs.Kind.{kind, off}
-use Rattle.machine.specs.Run.{Config, Call, Begin, Step, Served, unserved, begun, begin, step, stepped, answerOf, outcomeOfStep, serve}
+use Rattle.machine.specs.Run.{Config, Call, Begin, Step, Served, unserved, begun, begin, step, stepped, answerOf, serve}
 use Rattle.machine.proofs.Effect.{Effect}
 use Rattle.machine.proofs.Moved.{moved, Steps, steps}
 

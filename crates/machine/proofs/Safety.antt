@@ -2,13 +2,12 @@
 use mathlib.Core.Path.{_≡_, refl, sym}
 use mathlib.Core.Bool.{Bool, true, false}
 use mathlib.Core.List.{List, [], _∷_}
-use mathlib.Core.Logic.{_≢_}
 use Prim.Native.Nat.{ℕ}
 use Rattle.machine.specs.Object.{Object}
 use Rattle.machine.specs.Memory.{Memory}
-use Rattle.machine.specs.Machine.{Phase, Idle, Task, Next, Go, Turn, End, phaseOf, ends, advance, pick}
+use Rattle.machine.specs.Machine.{Idle, Task, Next, Go, Turn, End, phaseOf, ends, advance, pick}
 use Rattle.machine.specs.Run.{Config, Call, Served, start, firstPhase, begun, serve, run}
-use Rattle.machine.specs.Invariant.{HolderAnnounces, TaskSafe, Safe}
+use Rattle.machine.specs.Invariant.{TaskSafe, Safe}
 use Rattle.machine.proofs.Update.{update-all}
 use Rattle.machine.proofs.Effect.{Effect, effect, Allowed}
 use Rattle.machine.proofs.Branches.{free-not}
