@@ -8,3 +8,9 @@ pub mod Replay
 pub mod Kept
 pub mod Agreement
 pub mod Linearization
+pub mod Calls
+pub mod Rely
+pub mod Own
+pub mod Stable
+pub mod Safety
+pub mod Formed
