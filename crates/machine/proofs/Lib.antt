@@ -3,3 +3,9 @@ pub mod Effect
 pub mod Branch
 pub mod Branches
 pub mod Moved
+pub mod Calls
+pub mod Related
+pub mod Progress
+pub mod Entered
+pub mod Between
+pub mod Booked

@@ -1,0 +1,150 @@
+-- Every call is booked: its entries and its booking are a legal step of the plain book, and the book stays related to the configuration.
+use mathlib.Core.Path.{_≡_, refl, sym, _∙_, ap, subst}
+use mathlib.Core.Bool.{Bool, true, false}
+use mathlib.Core.Logic.{_≢_}
+use Prim.Native.Nat.{ℕ, suc, _<_}
+use native.Mathlib.Omega.{arith}
+use native.Mathlib.Decide.{ℕ-discrete}
+use borrow.Author.Tests.{lt-ltb, le-ltb}
+use Rattle.refusal.specs.declared.Refusal.{Refusal}
+use Rattle.machine.specs.Object.{Object}
+use Rattle.machine.specs.Memory.{HeadValue, Free, Held, Content, Empty, Op, Resp, Memory, stateOf, either, update}
+use Rattle.machine.specs.Machine.{Phase, Idle, ReadOnly, Task, pick, Next, Go, Turn, End, advance}
+use Rattle.machine.specs.Kind.{Kind, Off, Reading, Opening, Looping, Exiting, Retracting, kind, off}
+use Rattle.machine.specs.Run.{Config, Call, Begin, Step, Answer, Running, Refused, Served, unserved, firstPhase, answerOf, serve}
+use Rattle.machine.specs.Run.{begun as began}
+use Rattle.machine.specs.Invariant.{headValue, Safe}
+use Rattle.machine.specs.Book.{Operation, Book, Page, Waiting, Done, turned, none, Booking, begun, begin-task, begin-operation, begin-pending, running-waiting, running-done, ended, step-task, step-idle, Legal}
+use Rattle.machine.specs.Keeping.{enterBy, enterFor, counted, booked, keep}
+use Rattle.machine.proofs.Update.{clash, update-all, update-same, update-other}
+use Rattle.machine.proofs.Effect.{Effect, effect, Allowed}
+use Rattle.machine.proofs.Moved.{moved, Steps}
+use Rattle.machine.proofs.Calls.{Serving, begins, moves, serving, begin-task as task-unknown, begin-operation as operation-unknown, begin-pending as still-pending, step-task as no-task, step-idle as no-operation}
+use Rattle.machine.proofs.Related.{Standing, Out, Waits, Answered, byHead, byContent, standing, standsAt, Shows, Paged, Related}
+use Rattle.machine.proofs.Progress.{Progress, progress}
+use Rattle.machine.proofs.Entered.{withCells}
+use Rattle.machine.proofs.Between.{Runs, Ends, Between, entries-legal, between}
+
+-- ---- Pages
+
+head-not-out : (h : HeadValue) (t : ℕ) → byHead h t ≢ Out
+head-not-out (Free q) t e = let z : _≡_ {A = ℕ} 0 1 = cc in omega arith
+head-not-out (Held q j r) t e = go (ℕ-discrete j t) e
+  where
+    go : (d : Dec (j ≡ t)) → either d (Answered r) Waits ≢ Out
+    go (yes _) e = let z : _≡_ {A = ℕ} 0 1 = cc in omega arith
+    go (no _) e = let z : _≡_ {A = ℕ} 0 1 = cc in omega arith
+
+-- A task with an operation pending is not out.
+pending-not-out : (d : Kind) (a : Content) (h : HeadValue) (t : ℕ) → off d ≡ false → standing d a h t ≢ Out
+pending-not-out Off a h t p e = clash refl p
+pending-not-out Reading a h t p e = let z : _≡_ {A = ℕ} 0 1 = cc in omega arith
+pending-not-out Opening a h t p e = let z : _≡_ {A = ℕ} 0 1 = cc in omega arith
+pending-not-out Looping Empty h t p e = let z : _≡_ {A = ℕ} 0 1 = cc in omega arith
+pending-not-out Looping (Op x) h t p e = head-not-out h t e
+pending-not-out Looping (Resp v) h t p e = let z : _≡_ {A = ℕ} 0 1 = cc in omega arith
+pending-not-out (Exiting v) a h t p e = let z : _≡_ {A = ℕ} 0 1 = cc in omega arith
+pending-not-out (Retracting v) a h t p e = let z : _≡_ {A = ℕ} 0 1 = cc in omega arith
+
+-- The page of a task that is not out is not idle.
+shows-not-idle : (s : Standing) (t o c : ℕ) (p : Page) → s ≢ Out → Shows s t o c p → p ≡ Page.Idle → ⊥
+shows-not-idle Out t o c p n y e = n refl
+shows-not-idle Waits t o c p n (place, y) e = let z : _≡_ {A = ℕ} 0 1 = cc in omega arith
+shows-not-idle (Answered r) t o c p n y e = let z : _≡_ {A = ℕ} 0 1 = cc in omega arith
+
+-- One more step on a page.
+shows-counted : (s : Standing) (t o c : ℕ) (p : Page) → Shows s t o c p → Shows s t o (suc c) (counted p)
+shows-counted Out t o c p y = ap counted y
+shows-counted Waits t o c p (place, y) = (place, ap counted y)
+shows-counted (Answered r) t o c p y = ap counted y
+
+-- A task that begins waits, whatever its first phase.
+begins-waiting : (m : Memory) (t : ℕ) (d : Bool) → standsAt m t (kind (firstPhase d)) ≡ Waits
+begins-waiting m t true = refl
+begins-waiting m t false = refl
+
+-- The record and the page of one task change.
+pages-changed : (m : Memory) (c : Config) (k : Book) (i : ℕ) (x : Task) (p : Page) → Paged m i x p → ((t : ℕ) → i ≢ t → Paged m t (c .task t) (k .page t))
+    → (t : ℕ) → Paged m t (update (c .task) i x t) (update (k .page) i p t)
+pages-changed m c k i x p own others =
+    update-all (c .task) i x (λ t (y : Task). Paged m t y (update (k .page) i p t)) (rw (update-same (k .page) i p) own) (λ t d. rw (update-other (k .page) i p t d) (others t d))
+
+-- ---- Calls
+
+-- A reader's operation is one of the object's, and reading.
+abbrev pub Reader : Object → Task → Type 0
+Reader b t = t .phase ≡ ReadOnly → (t .operation < b .operations) × (b .changing (t .operation) ≡ false)
+
+-- The call x at a place, served with s over the configuration c, is booked in k.
+pub record Books (b : Object) (n place : ℕ) (x : Call) (c : Config) (k : Book) (s : Served) : Type 0 where
+  pub legal : Legal b n place (record { call = x; answer = s .answer }) k (booked place x (s .answer) (enterFor b n x c k))
+  pub related : Related (s .config) (booked place x (s .answer) (enterFor b n x c k))
+
+module _ (c : Config) (k : Book) (rel : Related c k) (i : ℕ) where
+  pending-page : off (kind (c .task i .phase)) ≡ false → k .page i ≡ Page.Idle → ⊥
+  pending-page p e = shows-not-idle (standsAt (c .memory) i (kind (c .task i .phase))) i _ _ (k .page i) (pending-not-out (kind (c .task i .phase)) _ _ i p) (rel .page i) e
+
+  idle-page : c .task i .phase ≡ Idle → k .page i ≡ Page.Idle
+  idle-page e = subst (λ (f : Phase). Shows (standsAt (c .memory) i (kind f)) i (c .task i .operation) (c .task i .steps) (k .page i)) e (rel .page i)
+
+module _ (b : Object) (n place : ℕ) (c : Config) where
+  -- The booking of a step of task i in the book l that leads to y, over the new cells m.
+  record BooksStep (m : Memory) (i : ℕ) (l : Book) (y : Next) : Type 0 where
+    booking : Booking b n place l (Step i) (answerOf (c .task i .steps) y) (booked place (Step i) (answerOf (c .task i .steps) y) l)
+    related : Related (record { memory = m; task = update (c .task) i (advance n (c .task i) y) }) (booked place (Step i) (answerOf (c .task i .steps) y) l)
+
+  module _ (m : Memory) (i : ℕ) (l : Book) (below : i < n) where
+    booking-runs : (p : Page) → l .page i ≡ p → (p ≡ Page.Idle → ⊥) → Booking b n place l (Step i) Running (turned i (counted p) l)
+    booking-runs Page.Idle e z = absurd (z refl)
+    booking-runs (Waiting x s) e z = running-waiting below e
+    booking-runs (Done r s) e z = running-done below e
+
+    own-runs : {f : Phase} → Runs c m i l f → Shows (standsAt m i (kind f)) i (c .task i .operation) (suc (c .task i .steps)) (counted (l .page i))
+    own-runs u = subst (λ (s : Standing). Shows s i (c .task i .operation) (suc (c .task i .steps)) (counted (l .page i))) (sym (u .stands)) (shows-counted (standsAt m i (kind (c .task i .phase))) i (c .task i .operation) (c .task i .steps) (l .page i) (u .related .page i))
+
+    books-step : (y : Next) → off (kind (c .task i .phase)) ≡ false → Between c m i l y → BooksStep m i l y
+    books-step (Go f) p u = record {
+      booking = booking-runs (l .page i) refl (pending-page (withCells c m) l (u .related) i p);
+      related = record { state = u .related .state; page = pages-changed m c l i _ _ (own-runs u) (λ t _. u .related .page t) };
+    }
+    books-step (Turn f) p u = record {
+      booking = booking-runs (l .page i) refl (pending-page (withCells c m) l (u .related) i p);
+      related = record { state = u .related .state; page = pages-changed m c l i _ _ (own-runs u) (λ t _. u .related .page t) };
+    }
+    books-step (End v) p u = record { booking = ended below (u .page); related = record { state = u .state; page = pages-changed m c l i _ _ refl (u .others) } }
+
+module _ (b : Object) (n place : ℕ) (c : Config) (k : Book) (rel : Related c k) where
+  books-begun : {i o : ℕ} → i < n → o < b .operations → c .task i .phase ≡ Idle → Books b n place (Begin i o) c k (began b i o c)
+  books-begun {i} {o} h l e = record {
+    legal = record { between = k; entering = none; booking = begun h l (idle-page c k rel i e) };
+    related = record { state = rel .state; page = pages-changed (c .memory) c k i _ _ own (λ t _. rel .page t) };
+  }
+    where
+      p : Page
+      p = Waiting (record { place = place; task = i; operation = o }) 0
+
+      own : Paged (c .memory) i (record { phase = firstPhase (b .changing o); operation = o; priority = c .task i .priority; steps = 0 }) p
+      own = subst (λ (s : Standing). Shows s i o 0 p) (sym (begins-waiting (c .memory) i (b .changing o))) (place, refl)
+
+  -- A refused call leaves the book and the configuration.
+  books-refused : {x : Call} {r : Refusal} → booked place x (Refused r) (enterFor b n x c k) ≡ k → Booking b n place k x (Refused r) k → Books b n place x c k (unserved c r)
+  books-refused e u = record { legal = record { between = k; entering = none; booking = rw e u }; related = rw e rel }
+
+  enters-beyond : (i : ℕ) → (i < n → ⊥) → enterFor b n (Step i) c k ≡ k
+  enters-beyond i h = ap (λ (t : Bool). pick t (enterBy b (c .memory) i (c .task i .phase) k) k) (le-ltb i n (omega arith))
+
+  enters-below : (i : ℕ) → i < n → enterFor b n (Step i) c k ≡ enterBy b (c .memory) i (c .task i .phase) k
+  enters-below i h = ap (λ (t : Bool). pick t (enterBy b (c .memory) i (c .task i .phase) k) k) (lt-ltb i n h)
+
+  books-moved : {i : ℕ} {e : Effect} {y : Next} → Safe c → b .good (stateOf (headValue (c .memory))) ≡ true → Reader b (c .task i)
+      → i < n → off (kind (c .task i .phase)) ≡ false → Allowed b (c .memory) i e → Steps b i c e y → Books b n place (Step i) c k (record { config = moved n i c e y; answer = answerOf (c .task i .steps) y })
+  books-moved {i} {e} {y} safe g r h p u v = rw (enters-below i h) (record { legal = record { between = l; entering = entries-legal b c k i w; booking = z .booking }; related = z .related })
+    where
+      l : Book
+      l = enterBy b (c .memory) i (c .task i .phase) k
+
+      w : Progress b (c .memory) i (c .task i .operation) (c .task i .phase) e y
+      w = progress b (c .memory) i (c .task i .priority) (c .task i .operation) v
+
+      z : BooksStep b n place c (effect i e (c .memory)) i l y
+      z = books-step b n place c (effect i e (c .memory)) i l h y p (between b c k i rel w refl p safe u g r)

@@ -1,0 +1,97 @@
+-- The branches of a step as the book sees them: how the operation of the stepping task goes on, and who is entered before.
+use mathlib.Core.Path.{_≡_, refl, ap}
+use mathlib.Core.Bool.{Bool, true, false}
+use Prim.Native.Nat.{ℕ}
+use Rattle.machine.specs.Object.{Object}
+use Rattle.machine.specs.Memory.{HeadValue, Content, Resp, Cell, Memory, stateOf, head-dec}
+use Rattle.machine.specs.Machine.{Phase, Idle, ReadOnly, Announce, Poll, LoadHead, LinkHead, LoadPriority, LoadOwn, Apply, ReloadApply, LoadHelped, LinkHelped, Validate, HandOver, ReloadHandOver, Release, ReloadRelease, ClearHead, ReloadClear, LoadExit, LinkExit, ClearExit, ReleaseExit, Retract, decided, pick, Next, Go, Turn, End}
+use Rattle.machine.specs.Kind.{Kind, Off, Reading, Opening, Looping, Exiting, Retracting, kind}
+use Rattle.machine.specs.Invariant.{headValue, content}
+use Rattle.machine.specs.Book.{Book}
+use Rattle.machine.specs.Keeping.{enter, enterBy}
+use Rattle.machine.proofs.Effect.{Effect, Unchanged, Retracted, Applied, Announced}
+use Rattle.machine.proofs.Branch.{Branch, stay-idle, read-only, announce, poll-response, poll-waits, load-head, link-free, link-held, link-fails, priority-waits, priority-rests, own-waits, own-response, own-empty, apply, apply-fails, reload-apply, reload-apply-lost, load-helped, link-helped, link-rested, link-helped-fails, validate, validate-fails, hand-over, hand-over-fails, reload-hand-over, reload-hand-over-lost, release, release-fails, reload-release, reload-release-lost, clear, clear-fails, reload-clear, reload-clear-lost, exit-clear, exit-release, exit-link, exit-retract, link-exit, link-exit-fails, clear-exit, clear-exit-fails, release-exit, release-exit-fails, retract}
+use Rattle.machine.proofs.Related.{Aside}
+
+-- From one kind of phase to the next, with the content a of the own announcement.
+pub data Onward (a : Content) : Kind → Kind → Type 0 where
+  loops : Onward a Looping Looping
+  leaves : {v : ℕ} → a ≡ Resp v → Onward a Looping (Exiting v)
+  exits : {v : ℕ} → Onward a (Exiting v) (Exiting v)
+  is-out : {v : ℕ} → Onward a (Exiting v) (Retracting v)
+
+-- For the task i with operation x: a reader ends at once; an announcement opens a changing operation and its retraction
+-- ends it; in between somebody's operation is applied, or nobody is entered.
+pub data Progress (b : Object) (m : Memory) (i x : ℕ) : Phase → Effect → Next → Type 0 where
+  idles : Progress b m i x Idle Unchanged (Go Idle)
+  reads : Progress b m i x ReadOnly Unchanged (End (b .outcome (stateOf (headValue m)) x))
+  announces : Progress b m i x Announce (Announced x) (Go Poll)
+  applies : {h : Cell HeadValue} {j o : ℕ} → m .head ≡ h → Progress b m i x (Apply h j o) (Applied (b .next (stateOf (h .value)) o) j (b .outcome (stateOf (h .value)) o)) (Turn Poll)
+  continues : {f f′ : Phase} {e : Effect} → Onward (content m i) (kind f) (kind f′) → ((s t : ℕ) → Aside s t e) → ((k : Book) → enterBy b m i f k ≡ k) → Progress b m i x f e (Go f′)
+  retracts : {v : ℕ} → Progress b m i x (Retract v) Retracted (End v)
+
+decided-yes : {P : Type 0} (d : Dec P) → P → decided d ≡ true
+decided-yes (yes _) p = refl
+decided-yes (no n) p = absurd (n p)
+
+decided-no : {P : Type 0} (d : Dec P) → (P → ⊥) → decided d ≡ false
+decided-no (yes p) n = absurd (n p)
+decided-no (no _) n = refl
+
+module _ (b : Object) (m : Memory) (i : ℕ) where
+  -- Before a swap that applies an operation, its task is entered; before one that fails, nobody.
+  pub enters-applied : (h : Cell HeadValue) (j o : ℕ) (k : Book) → m .head ≡ h → enterBy b m i (Apply h j o) k ≡ enter b j k
+  enters-applied h j o k e = ap (λ (t : Bool). pick t (enter b j k) k) (decided-yes (head-dec (m .head) h) e)
+
+  enters-none : (h : Cell HeadValue) (j o : ℕ) → (m .head ≡ h → ⊥) → (k : Book) → enterBy b m i (Apply h j o) k ≡ k
+  enters-none h j o n k = ap (λ (t : Bool). pick t (enter b j k) k) (decided-no (head-dec (m .head) h) n)
+
+  module _ (p x : ℕ) where
+    pub progress : {f : Phase} {e : Effect} {y : Next} → Branch b m i p x f e y → Progress b m i x f e y
+    progress stay-idle = idles
+    progress read-only = reads
+    progress announce = announces
+    progress (poll-response e) = continues (leaves e) (λ _ _. tt) (λ _. refl)
+    progress (poll-waits _) = continues loops (λ _ _. tt) (λ _. refl)
+    progress load-head = continues loops (λ _ _. tt) (λ _. refl)
+    progress (link-free _ _) = continues loops (λ _ _. tt) (λ _. refl)
+    progress (link-held _ _) = continues loops (λ _ _. tt) (λ _. refl)
+    progress (link-fails _) = continues loops (λ _ _. tt) (λ _. refl)
+    progress (priority-waits _) = continues loops (λ _ _. tt) (λ _. refl)
+    progress (priority-rests _) = continues loops (λ _ _. tt) (λ _. refl)
+    progress (own-waits _) = continues loops (λ _ _. tt) (λ _. refl)
+    progress (own-response e) = continues (leaves e) (λ _ _. tt) (λ _. refl)
+    progress (own-empty _) = continues loops (λ _ _. tt) (λ _. refl)
+    progress (apply e) = applies e
+    progress (apply-fails {h} {j} {o} n) = continues loops (λ _ _. tt) (enters-none h j o n)
+    progress (reload-apply _) = continues loops (λ _ _. tt) (λ _. refl)
+    progress (reload-apply-lost _) = continues loops (λ _ _. tt) (λ _. refl)
+    progress load-helped = continues loops (λ _ _. tt) (λ _. refl)
+    progress (link-helped _ _) = continues loops (λ _ _. tt) (λ _. refl)
+    progress (link-rested _ _) = continues loops (λ _ _. tt) (λ _. refl)
+    progress (link-helped-fails _) = continues loops (λ _ _. tt) (λ _. refl)
+    progress (validate _) = continues loops (λ _ _. tt) (λ _. refl)
+    progress (validate-fails _) = continues loops (λ _ _. tt) (λ _. refl)
+    progress (hand-over _) = continues loops (λ _ _. tt) (λ _. refl)
+    progress (hand-over-fails _) = continues loops (λ _ _. tt) (λ _. refl)
+    progress (reload-hand-over _) = continues loops (λ _ _. tt) (λ _. refl)
+    progress (reload-hand-over-lost _) = continues loops (λ _ _. tt) (λ _. refl)
+    progress (release _) = continues loops (λ _ _. tt) (λ _. refl)
+    progress (release-fails _) = continues loops (λ _ _. tt) (λ _. refl)
+    progress (reload-release _) = continues loops (λ _ _. tt) (λ _. refl)
+    progress (reload-release-lost _) = continues loops (λ _ _. tt) (λ _. refl)
+    progress (clear _) = continues loops (λ _ _. tt) (λ _. refl)
+    progress (clear-fails _) = continues loops (λ _ _. tt) (λ _. refl)
+    progress (reload-clear _) = continues loops (λ _ _. tt) (λ _. refl)
+    progress (reload-clear-lost _) = continues loops (λ _ _. tt) (λ _. refl)
+    progress (exit-clear _ _) = continues exits (λ _ _. tt) (λ _. refl)
+    progress (exit-release _ _) = continues exits (λ _ _. tt) (λ _. refl)
+    progress (exit-link _ _) = continues exits (λ _ _. tt) (λ _. refl)
+    progress (exit-retract _ _) = continues is-out (λ _ _. tt) (λ _. refl)
+    progress (link-exit _) = continues exits (λ _ _. tt) (λ _. refl)
+    progress (link-exit-fails _) = continues exits (λ _ _. tt) (λ _. refl)
+    progress (clear-exit _) = continues is-out (λ _ _. tt) (λ _. refl)
+    progress (clear-exit-fails _) = continues exits (λ _ _. tt) (λ _. refl)
+    progress (release-exit _) = continues is-out (λ _ _. tt) (λ _. refl)
+    progress (release-exit-fails _) = continues exits (λ _ _. tt) (λ _. refl)
+    progress retract = retracts
