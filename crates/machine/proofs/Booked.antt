@@ -14,12 +14,15 @@ use Rattle.machine.specs.Kind.{Kind, Off, Reading, Opening, Looping, Exi
 use Rattle.machine.specs.Run.{Config, Call, Begin, Step, Answer, Running, Refused, Served, unserved, firstPhase, answerOf, serve}
 use Rattle.machine.specs.Run.{begun as began}
 use Rattle.machine.specs.Invariant.{headValue, Safe}
-use Rattle.machine.specs.Book.{Operation, Book, Page, Waiting, Done, turned, none, Booking, begun, begin-task, begin-operation, begin-pending, running-waiting, running-done, ended, step-task, step-idle, Legal}
+use Rattle.machine.specs.Form.{OperationFormed, Formed}
+use Rattle.machine.specs.Book.{Operation, Book, Page, Waiting, Done, turned, Entering, none, Booking, begun, begin-task, begin-operation, begin-pending, running-waiting, running-done, ended, step-task, step-idle, Legal}
 use Rattle.machine.specs.Keeping.{enterBy, enterFor, counted, booked, keep}
 use Rattle.machine.proofs.Update.{clash, update-all, update-same, update-other}
 use Rattle.machine.proofs.Effect.{Effect, effect, Allowed}
 use Rattle.machine.proofs.Moved.{moved, Steps}
 use Rattle.machine.proofs.Calls.{Serving, begins, moves, serving, begin-task as task-unknown, begin-operation as operation-unknown, begin-pending as still-pending, step-task as no-task, step-idle as no-operation}
+use Rattle.machine.proofs.Own.{allowed}
+use Rattle.machine.proofs.Formed.{state-good}
 use Rattle.machine.proofs.Related.{Standing, Out, Waits, Answered, byHead, byContent, standing, standsAt, Shows, Paged, Related}
 use Rattle.machine.proofs.Progress.{Progress, progress}
 use Rattle.machine.proofs.Entered.{withCells}
@@ -71,10 +74,6 @@ pages-changed m c k i x p own others =
 
 -- ---- Calls
 
--- A reader's operation is one of the object's, and reading.
-abbrev pub Reader : Object → Task → Type 0
-Reader b t = t .phase ≡ ReadOnly → (t .operation < b .operations) × (b .changing (t .operation) ≡ false)
-
 -- The call x at a place, served with s over the configuration c, is booked in k.
 pub record Books (b : Object) (n place : ℕ) (x : Call) (c : Config) (k : Book) (s : Served) : Type 0 where
   pub legal : Legal b n place (record { call = x; answer = s .answer }) k (booked place x (s .answer) (enterFor b n x c k))
@@ -114,37 +113,62 @@ module _ (b : Object) (n place : ℕ) (c : Config) where
     books-step (End v) p u = record { booking = ended below (u .page); related = record { state = u .state; page = pages-changed m c l i _ _ refl (u .others) } }
 
 module _ (b : Object) (n place : ℕ) (c : Config) (k : Book) (rel : Related c k) where
+  -- The entries lead to the book l, in which the call is booked.
+  books-through : {x : Call} {s : Served} {l : Book} → enterFor b n x c k ≡ l → Entering b k l → Booking b n place l x (s .answer) (booked place x (s .answer) l) → Related (s .config) (booked place x (s .answer) l)
+      → Books b n place x c k s
+  books-through {x} {s} {l} e f u r = record { legal = record { between = l; entering = f; booking = rw e u }; related = rw e r }
+
   books-begun : {i o : ℕ} → i < n → o < b .operations → c .task i .phase ≡ Idle → Books b n place (Begin i o) c k (began b i o c)
-  books-begun {i} {o} h l e = record {
-    legal = record { between = k; entering = none; booking = begun h l (idle-page c k rel i e) };
-    related = record { state = rel .state; page = pages-changed (c .memory) c k i _ _ own (λ t _. rel .page t) };
-  }
+  books-begun {i} {o} h l e = books-through refl none (begun h l (idle-page c k rel i e)) (record { state = rel .state; page = pages-changed (c .memory) c k i _ _ own (λ t _. rel .page t) })
     where
-      p : Page
-      p = Waiting (record { place = place; task = i; operation = o }) 0
+      first : Page
+      first = Waiting (record { place = place; task = i; operation = o }) 0
 
-      own : Paged (c .memory) i (record { phase = firstPhase (b .changing o); operation = o; priority = c .task i .priority; steps = 0 }) p
-      own = subst (λ (s : Standing). Shows s i o 0 p) (sym (begins-waiting (c .memory) i (b .changing o))) (place, refl)
+      own : Paged (c .memory) i (record { phase = firstPhase (b .changing o); operation = o; priority = c .task i .priority; steps = 0 }) first
+      own = subst (λ (s : Standing). Shows s i o 0 first) (sym (begins-waiting (c .memory) i (b .changing o))) (place, refl)
 
-  -- A refused call leaves the book and the configuration.
-  books-refused : {x : Call} {r : Refusal} → booked place x (Refused r) (enterFor b n x c k) ≡ k → Booking b n place k x (Refused r) k → Books b n place x c k (unserved c r)
-  books-refused e u = record { legal = record { between = k; entering = none; booking = rw e u }; related = rw e rel }
+  -- The entries before a step: by the task's phase, and none for a number that is no task's.
+  enters-below : {i : ℕ} → i < n → enterFor b n (Step i) c k ≡ enterBy b (c .memory) i (c .task i .phase) k
+  enters-below {i} h = ap (λ (t : Bool). pick t (enterBy b (c .memory) i (c .task i .phase) k) k) (lt-ltb i n h)
 
-  enters-beyond : (i : ℕ) → (i < n → ⊥) → enterFor b n (Step i) c k ≡ k
-  enters-beyond i h = ap (λ (t : Bool). pick t (enterBy b (c .memory) i (c .task i .phase) k) k) (le-ltb i n (omega arith))
+  enters-beyond : {i : ℕ} → (i < n → ⊥) → enterFor b n (Step i) c k ≡ k
+  enters-beyond {i} h = ap (λ (t : Bool). pick t (enterBy b (c .memory) i (c .task i .phase) k) k) (le-ltb i n (omega arith))
 
-  enters-below : (i : ℕ) → i < n → enterFor b n (Step i) c k ≡ enterBy b (c .memory) i (c .task i .phase) k
-  enters-below i h = ap (λ (t : Bool). pick t (enterBy b (c .memory) i (c .task i .phase) k) k) (lt-ltb i n h)
+  enters-idle : {i : ℕ} → i < n → c .task i .phase ≡ Idle → enterFor b n (Step i) c k ≡ k
+  enters-idle {i} h e = enters-below h ∙ ap (λ (f : Phase). enterBy b (c .memory) i f k) e
 
-  books-moved : {i : ℕ} {e : Effect} {y : Next} → Safe c → b .good (stateOf (headValue (c .memory))) ≡ true → Reader b (c .task i)
-      → i < n → off (kind (c .task i .phase)) ≡ false → Allowed b (c .memory) i e → Steps b i c e y → Books b n place (Step i) c k (record { config = moved n i c e y; answer = answerOf (c .task i .steps) y })
-  books-moved {i} {e} {y} safe g r h p u v = rw (enters-below i h) (record { legal = record { between = l; entering = entries-legal b c k i w; booking = z .booking }; related = z .related })
-    where
-      l : Book
-      l = enterBy b (c .memory) i (c .task i .phase) k
+  module _ (safe : Safe c) (formed : Formed b n c) where
+    -- A reader's operation is one of the object's, and reading.
+    reader : {i : ℕ} → i < n → c .task i .phase ≡ ReadOnly → (c .task i .operation < b .operations) × (b .changing (c .task i .operation) ≡ false)
+    reader {i} h e =
+        let y : OperationFormed b Reading (c .task i .operation) (c .task i .steps) = rw e at (formed .task i h .operation) in
+        (y .0, y .1)
 
-      w : Progress b (c .memory) i (c .task i .operation) (c .task i .phase) e y
-      w = progress b (c .memory) i (c .task i .priority) (c .task i .operation) v
+    books-moved : {i : ℕ} {e : Effect} {y : Next} → i < n → off (kind (c .task i .phase)) ≡ false → Steps b i c e y
+        → Books b n place (Step i) c k (record { config = moved n i c e y; answer = answerOf (c .task i .steps) y })
+    books-moved {i} {e} {y} h p v = books-through (enters-below h) (entries-legal b c k i w) (z .booking) (z .related)
+      where
+        w : Progress b (c .memory) i (c .task i .operation) (c .task i .phase) e y
+        w = progress b (c .memory) i (c .task i .priority) (c .task i .operation) v
 
-      z : BooksStep b n place c (effect i e (c .memory)) i l y
-      z = books-step b n place c (effect i e (c .memory)) i l h y p (between b c k i rel w refl p safe u g r)
+        u : Allowed b (c .memory) i e
+        u = allowed b (c .memory) i (c .task i .priority) (c .task i .operation) (safe .holder) v (safe .each i)
+
+        z : BooksStep b n place c (effect i e (c .memory)) i (enterBy b (c .memory) i (c .task i .phase) k) y
+        z = books-step b n place c (effect i e (c .memory)) i _ h y p (between b c k i rel w refl p safe u (state-good b n (headValue (c .memory)) (formed .memory .head .value)) (reader h))
+
+    books : {x : Call} {s : Served} → Serving b n c x s → Books b n place x c k s
+    books (begins h l e) = books-begun h l e
+    books (task-unknown h) = books-through refl none (begin-task h) rel
+    books (operation-unknown h l) = books-through refl none (begin-operation h l) rel
+    books (still-pending {i = i} h l e) = books-through refl none (begin-pending h l (pending-page c k rel i e)) rel
+    books (moves h e v) = books-moved h e v
+    books (no-task h) = books-through (enters-beyond h) none (step-task h) rel
+    books (no-operation {i = i} h e) = books-through (enters-idle h e) none (step-idle h (idle-page c k rel i e)) rel
+
+    -- The call x at a place is a legal step of the book, and leaves it related.
+    pub legal-serve : (x : Call) → Legal b n place (record { call = x; answer = serve b n x c .answer }) k (keep b n place x c k)
+    legal-serve x = books (serving b n c x) .legal
+
+    pub related-serve : (x : Call) → Related (serve b n x c .config) (keep b n place x c k)
+    related-serve x = books (serving b n c x) .related

@@ -4,6 +4,11 @@ pub mod Branch
 pub mod Branches
 pub mod Moved
 pub mod Calls
+pub mod Rely
+pub mod Own
+pub mod Stable
+pub mod Safety
+pub mod Formed
 pub mod Related
 pub mod Progress
 pub mod Entered
