@@ -14,3 +14,4 @@ pub mod Progress
 pub mod Entered
 pub mod Between
 pub mod Booked
+pub mod Keeps
