@@ -9,6 +9,11 @@ pub mod Own
 pub mod Stable
 pub mod Safety
 pub mod Formed
+pub mod Lists
+pub mod Replay
+pub mod Kept
+pub mod Agreement
+pub mod Linearization
 pub mod Related
 pub mod Progress
 pub mod Entered
