@@ -23,7 +23,6 @@ use Rattle.machine.proofs.Entered.{withCells, enter-legal, enter-other,
 pub record Runs (c : Config) (m : Memory) (i : ℕ) (k : Book) (f : Phase) : Type 0 where
   pub related : Related (withCells c m) k
   pub stands : standsAt m i (kind f) ≡ standsAt m i (kind (c .task i .phase))
-  pub pends : off (kind f) ≡ false
 
 -- The step of task i ends with the response v: the task has been entered with it.
 pub record Ends (c : Config) (m : Memory) (i : ℕ) (k : Book) (v : ℕ) : Type 0 where
@@ -55,12 +54,6 @@ onward-stands loops h t = refl
 onward-stands (leaves e) h t = rw e refl
 onward-stands exits h t = refl
 onward-stands is-out h t = refl
-
-onward-pends : {a : Content} {d d′ : Kind} → Onward a d d′ → off d′ ≡ false
-onward-pends loops = refl
-onward-pends (leaves e) = refl
-onward-pends exits = refl
-onward-pends is-out = refl
 
 module _ (b : Object) (c : Config) (k : Book) (i : ℕ) where
   -- Before a step only waiting tasks are entered.
@@ -94,7 +87,7 @@ module _ (b : Object) (c : Config) (k : Book) (i : ℕ) where
 
     -- An announced operation waits as before.
     between-announces : (o : ℕ) → c .task i .phase ≡ Announce → Allowed b (c .memory) i (Announced o) → Runs c (effect i (Announced o) (c .memory)) i k Poll
-    between-announces o z u = record { related = record { state = rel .state; page = λ t. at t (ℕ-discrete i t) }; stands = waits ∙ sym opening; pends = refl }
+    between-announces o z u = record { related = record { state = rel .state; page = λ t. at t (ℕ-discrete i t) }; stands = waits ∙ sym opening }
       where
         m : Memory
         m = effect i (Announced o) (c .memory)
@@ -116,7 +109,6 @@ module _ (b : Object) (c : Config) (k : Book) (i : ℕ) where
     between-applies q j r z l safe u = record {
       related = related-applied b c k i rel safe q j r u;
       stands = sym (ap (λ (f : Phase). standsAt (effect i (Applied q j r) (c .memory)) i (kind f)) z ∙ ap (standsAt (effect i (Applied q j r) (c .memory)) i) l);
-      pends = refl;
     }
 
     between-continues : {f : Phase} (e : Effect) (f′ : Phase) → c .task i .phase ≡ f → Allowed b (c .memory) i e → Onward (content (c .memory) i) (kind f) (kind f′) → ((s t : ℕ) → Aside s t e)
@@ -124,7 +116,6 @@ module _ (b : Object) (c : Config) (k : Book) (i : ℕ) where
     between-continues {f} e f′ z u o s = record {
       related = record { state = rel .state ∙ sym (state-aside (c .memory) i e s); page = λ t. page-aside b c k i rel e u t (s i t) };
       stands = aside f′ ∙ onward-stands o (headValue (c .memory)) i ∙ sym (aside f) ∙ sym (ap (λ (g : Phase). standsAt (effect i e (c .memory)) i (kind g)) z);
-      pends = onward-pends o;
     }
       where
         aside : (g : Phase) → standsAt (effect i e (c .memory)) i (kind g) ≡ standsAt (c .memory) i (kind g)

@@ -20,3 +20,4 @@ pub mod Entered
 pub mod Between
 pub mod Booked
 pub mod Keeps
+pub mod Pending

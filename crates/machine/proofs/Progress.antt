@@ -4,8 +4,8 @@ use mathlib.Core.Bool.{Bool, true, false}
 use Prim.Native.Nat.{ℕ}
 use Rattle.machine.specs.Object.{Object}
 use Rattle.machine.specs.Memory.{HeadValue, Content, Resp, Cell, Memory, stateOf, head-dec}
-use Rattle.machine.specs.Machine.{Phase, Idle, ReadOnly, Announce, Poll, LoadHead, LinkHead, LoadPriority, LoadOwn, Apply, ReloadApply, LoadHelped, LinkHelped, Validate, HandOver, ReloadHandOver, Release, ReloadRelease, ClearHead, ReloadClear, LoadExit, LinkExit, ClearExit, ReleaseExit, Retract, decided, pick, Next, Go, Turn, End}
-use Rattle.machine.specs.Kind.{Kind, Off, Reading, Opening, Looping, Exiting, Retracting, kind}
+use Rattle.machine.specs.Machine.{Phase, Idle, ReadOnly, Announce, Poll, LoadHead, LinkHead, LoadPriority, LoadOwn, Apply, ReloadApply, LoadHelped, LinkHelped, Validate, HandOver, ReloadHandOver, Release, ReloadRelease, ClearHead, ReloadClear, LoadExit, LinkExit, ClearExit, ReleaseExit, Retract, decided, pick, Next, Go, Turn, End, phaseOf, ends}
+use Rattle.machine.specs.Kind.{Kind, Off, Reading, Opening, Looping, Exiting, Retracting, kind, off}
 use Rattle.machine.specs.Invariant.{headValue, content}
 use Rattle.machine.specs.Book.{Book}
 use Rattle.machine.specs.Keeping.{enter, enterBy}
@@ -29,6 +29,21 @@ pub data Progress (b : Object) (m : Memory) (i x : ℕ) : Phase → Effect → N
   applies : {h : Cell HeadValue} {j o : ℕ} → m .head ≡ h → Progress b m i x (Apply h j o) (Applied (b .next (stateOf (h .value)) o) j (b .outcome (stateOf (h .value)) o)) (Turn Poll)
   continues : {f f′ : Phase} {e : Effect} → Onward (content m i) (kind f) (kind f′) → ((s t : ℕ) → Aside s t e) → ((k : Book) → enterBy b m i f k ≡ k) → Progress b m i x f e (Go f′)
   retracts : {v : ℕ} → Progress b m i x (Retract v) Retracted (End v)
+
+-- A task that goes on stays pending.
+onward-pends : {a : Content} {d d′ : Kind} → Onward a d d′ → off d′ ≡ false
+onward-pends loops = refl
+onward-pends (leaves e) = refl
+onward-pends exits = refl
+onward-pends is-out = refl
+
+pub progress-pends : {b : Object} {m : Memory} {i x : ℕ} {f : Phase} {e : Effect} {y : Next} → Progress b m i x f e y → off (kind f) ≡ false → off (kind (phaseOf y)) ≡ ends y
+progress-pends idles p = p
+progress-pends reads p = refl
+progress-pends announces p = refl
+progress-pends (applies e) p = refl
+progress-pends (continues o s n) p = onward-pends o
+progress-pends retracts p = refl
 
 decided-yes : {P : Type 0} (d : Dec P) → P → decided d ≡ true
 decided-yes (yes _) p = refl
