@@ -11,9 +11,13 @@ use Rattle.machine.specs.Run.{Config, Call, Event, start, serve, run, hi
 use Rattle.machine.specs.Invariant.{Safe}
 use Rattle.machine.specs.Form.{Formed}
 use Rattle.machine.specs.Book.{Book, blank, Kept, rest, then}
+use Rattle.machine.specs.History.{Linearizes}
 use Rattle.machine.specs.Keeping.{keep, bookAfter}
 use Rattle.machine.proofs.Safety.{safe-start, safe-serve}
 use Rattle.machine.proofs.Formed.{formed-start, formed-serve}
+use Rattle.machine.proofs.Replay.{reached}
+use Rattle.machine.proofs.Kept.{Extends, order-grows}
+use Rattle.machine.proofs.Linearization.{kept-agrees, linearizable}
 use Rattle.machine.proofs.Related.{Related, related-start}
 use Rattle.machine.proofs.Booked.{legal-serve, related-serve}
 
@@ -59,11 +63,25 @@ module _ (b : Object) (n : ℕ) where
       shift : suc place + length xs ≡ place + suc (length xs)
       shift = omega arith
 
+-- The book after a list of calls from the start in state q.
+abbrev pub bookOf : Object → (n q : ℕ) → List Call → Book
+bookOf b n q xs = bookAfter b n 0 xs (start q) (blank q)
+
 module _ (b : Object) (n q : ℕ) (good : b .good q ≡ true) where
-  -- The book after a list of calls from the start.
-  pub sound : (xs : List Call) → Sound b n (run b n xs (start q)) (bookAfter b n 0 xs (start q) (blank q))
+  pub sound : (xs : List Call) → Sound b n (run b n xs (start q)) (bookOf b n q xs)
   sound xs = sound-from b n 0 xs (sound-start b n good)
 
   -- Every call of the list with its answer is a legal step of the plain book.
-  pub kept : (xs : List Call) → Kept b n 0 (blank q) (history b n xs (start q)) (bookAfter b n 0 xs (start q) (blank q))
+  pub kept : (xs : List Call) → Kept b n 0 (blank q) (history b n xs (start q)) (bookOf b n q xs)
   kept xs = kept-from b n 0 xs (sound-start b n good)
+
+  -- The book's order linearizes the history, and its replay leads to the book's state.
+  pub run-linearizable : (xs : List Call) → Linearizes b q (history b n xs (start q)) (bookOf b n q xs .order)
+  run-linearizable xs = linearizable b n q _ _ (kept xs)
+
+  pub state-reached : (xs : List Call) → bookOf b n q xs .state ≡ reached b q (bookOf b n q xs .order)
+  state-reached xs = kept-agrees b n q _ _ (kept xs) .state
+
+  -- What was entered stands when the list goes on.
+  pub order-stands : (xs ys : List Call) → Extends (bookOf b n q xs .order) (bookOf b n q (xs ++ ys) .order)
+  order-stands xs ys = rw (book-grows b n 0 xs ys (start q) (blank q)) (order-grows (kept-from b n (0 + length xs) ys (sound xs)))

@@ -21,3 +21,6 @@ pub mod Between
 pub mod Booked
 pub mod Keeps
 pub mod Pending
+pub mod Quiet
+pub mod Rest
+pub mod MidWork
