@@ -1,20 +1,20 @@
 -- The book of a step between the entries and the booking: a task that goes on stands as before, and one that ends has its response.
 use mathlib.Core.Path.{_≡_, refl, sym, _∙_, ap, subst}
-use mathlib.Core.Bool.{Bool, true, false}
+use mathlib.Core.Bool.{true, false}
 use mathlib.Core.Logic.{_≢_}
 use Prim.Native.Nat.{ℕ, _<_}
 use native.Mathlib.Decide.{ℕ-discrete}
 use Rattle.machine.specs.Object.{Object}
-use Rattle.machine.specs.Memory.{HeadValue, Content, Op, Resp, Cell, Memory, stateOf}
-use Rattle.machine.specs.Machine.{Phase, Idle, ReadOnly, Announce, Poll, Apply, Retract, Next, Go, Turn, End}
-use Rattle.machine.specs.Kind.{Kind, Off, Reading, Opening, Looping, Exiting, Retracting, kind, off}
+use Rattle.machine.specs.Memory.{HeadValue, Content, Cell, Memory, stateOf}
+use Rattle.machine.specs.Machine.{Phase, ReadOnly, Announce, Poll, Next, Go, Turn, End}
+use Rattle.machine.specs.Kind.{Kind, Looping, kind, off}
 use Rattle.machine.specs.Run.{Config}
-use Rattle.machine.specs.Invariant.{headValue, content, NotHolder, Safe}
+use Rattle.machine.specs.Invariant.{headValue, content, Safe}
 use Rattle.machine.specs.Book.{Book, Done, Entering, none}
 use Rattle.machine.specs.Keeping.{enter, enterBy}
 use Rattle.machine.proofs.Update.{clash, update-same}
 use Rattle.machine.proofs.Effect.{Effect, Unchanged, Linked, Released, Cleared, Retracted, Applied, LinkedAt, ReleasedAt, HandedOver, Announced, effect, Allowed}
-use Rattle.machine.proofs.Related.{Standing, Waits, Answered, byHead, byContent, standing, standsAt, Shows, Paged, Related, Aside, stands-aside, not-held}
+use Rattle.machine.proofs.Related.{Standing, Waits, byContent, standing, standsAt, Shows, Paged, Related, Aside, stands-aside, not-held}
 use Rattle.machine.proofs.Progress.{Onward, loops, leaves, exits, is-out, Progress, idles, reads, announces, applies, continues, retracts, enters-applied}
 use Rattle.machine.proofs.Entered.{withCells, enter-legal, enter-other, EnteredAs, enters-as, page-aside, related-applied}
 

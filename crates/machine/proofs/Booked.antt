@@ -6,16 +6,15 @@ use Prim.Native.Nat.{ℕ, suc, _<_}
 use native.Mathlib.Omega.{arith}
 use native.Mathlib.Decide.{ℕ-discrete}
 use borrow.Author.Tests.{lt-ltb, le-ltb}
-use Rattle.refusal.specs.declared.Refusal.{Refusal}
 use Rattle.machine.specs.Object.{Object}
-use Rattle.machine.specs.Memory.{HeadValue, Free, Held, Content, Empty, Op, Resp, Memory, stateOf, either, update}
+use Rattle.machine.specs.Memory.{HeadValue, Free, Held, Content, Empty, Op, Resp, Memory, either, update}
 use Rattle.machine.specs.Machine.{Phase, Idle, ReadOnly, Task, pick, Next, Go, Turn, End, advance}
 use Rattle.machine.specs.Kind.{Kind, Off, Reading, Opening, Looping, Exiting, Retracting, kind, off}
-use Rattle.machine.specs.Run.{Config, Call, Begin, Step, Answer, Running, Refused, Served, unserved, firstPhase, answerOf, serve}
+use Rattle.machine.specs.Run.{Config, Call, Begin, Step, Running, Served, firstPhase, answerOf, serve}
 use Rattle.machine.specs.Run.{begun as began}
 use Rattle.machine.specs.Invariant.{headValue, Safe}
 use Rattle.machine.specs.Form.{OperationFormed, Formed}
-use Rattle.machine.specs.Book.{Operation, Book, Page, Waiting, Done, turned, Entering, none, Booking, begun, begin-task, begin-operation, begin-pending, running-waiting, running-done, ended, step-task, step-idle, Legal}
+use Rattle.machine.specs.Book.{Book, Page, Waiting, Done, turned, Entering, none, Booking, begun, begin-task, begin-operation, begin-pending, running-waiting, running-done, ended, step-task, step-idle, Legal}
 use Rattle.machine.specs.Keeping.{enterBy, enterFor, counted, booked, keep}
 use Rattle.machine.proofs.Update.{clash, update-all, update-same, update-other}
 use Rattle.machine.proofs.Effect.{Effect, effect, Allowed}
@@ -23,10 +22,10 @@ use Rattle.machine.proofs.Moved.{moved, Steps}
 use Rattle.machine.proofs.Calls.{Serving, begins, moves, serving, begin-task as task-unknown, begin-operation as operation-unknown, begin-pending as still-pending, step-task as no-task, step-idle as no-operation}
 use Rattle.machine.proofs.Own.{allowed}
 use Rattle.machine.proofs.Formed.{state-good}
-use Rattle.machine.proofs.Related.{Standing, Out, Waits, Answered, byHead, byContent, standing, standsAt, Shows, Paged, Related}
+use Rattle.machine.proofs.Related.{Standing, Out, Waits, Answered, byHead, standing, standsAt, Shows, Paged, Related}
 use Rattle.machine.proofs.Progress.{Progress, progress}
 use Rattle.machine.proofs.Entered.{withCells}
-use Rattle.machine.proofs.Between.{Runs, Ends, Between, entries-legal, between}
+use Rattle.machine.proofs.Between.{Runs, Between, entries-legal, between}
 
 -- ---- Pages
 

@@ -24,3 +24,4 @@ pub mod Pending
 pub mod Quiet
 pub mod Rest
 pub mod MidWork
+pub mod OwnSteps

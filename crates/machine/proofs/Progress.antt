@@ -4,8 +4,8 @@ use mathlib.Core.Bool.{Bool, true, false}
 use Prim.Native.Nat.{ℕ}
 use Rattle.machine.specs.Object.{Object}
 use Rattle.machine.specs.Memory.{HeadValue, Content, Resp, Cell, Memory, stateOf, head-dec}
-use Rattle.machine.specs.Machine.{Phase, Idle, ReadOnly, Announce, Poll, LoadHead, LinkHead, LoadPriority, LoadOwn, Apply, ReloadApply, LoadHelped, LinkHelped, Validate, HandOver, ReloadHandOver, Release, ReloadRelease, ClearHead, ReloadClear, LoadExit, LinkExit, ClearExit, ReleaseExit, Retract, decided, pick, Next, Go, Turn, End, phaseOf, ends}
-use Rattle.machine.specs.Kind.{Kind, Off, Reading, Opening, Looping, Exiting, Retracting, kind, off}
+use Rattle.machine.specs.Machine.{Phase, Idle, ReadOnly, Announce, Poll, Apply, Retract, decided, pick, Next, Go, Turn, End, phaseOf, ends}
+use Rattle.machine.specs.Kind.{Kind, Looping, Exiting, Retracting, kind, off}
 use Rattle.machine.specs.Invariant.{headValue, content}
 use Rattle.machine.specs.Book.{Book}
 use Rattle.machine.specs.Keeping.{enter, enterBy}

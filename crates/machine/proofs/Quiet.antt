@@ -1,13 +1,13 @@
 -- A task with no changing operation pending leaves no trace in the cells; the head's holder has one pending.
-use mathlib.Core.Path.{_≡_, refl, sym, _∙_, ap}
-use mathlib.Core.Bool.{Bool, true, false}
+use mathlib.Core.Path.{_≡_, refl}
+use mathlib.Core.Bool.{true}
 use Prim.Native.Nat.{ℕ, _<_}
 use native.Mathlib.Decide.{decLt}
 use Rattle.machine.specs.Object.{Object}
-use Rattle.machine.specs.Memory.{HeadValue, Held, Content, Empty, Memory}
-use Rattle.machine.specs.Machine.{Phase, Idle, ReadOnly, Announce, Poll, LoadHead, LinkHead, LoadPriority, LoadOwn, Apply, ReloadApply, LoadHelped, LinkHelped, Validate, HandOver, ReloadHandOver, Release, ReloadRelease, ClearHead, ReloadClear, LoadExit, LinkExit, ClearExit, ReleaseExit, Retract, Task, pick}
+use Rattle.machine.specs.Memory.{Held, Content, Empty, Memory}
+use Rattle.machine.specs.Machine.{Phase, Idle, ReadOnly, Announce, Poll, LoadHead, LinkHead, LoadPriority, LoadOwn, Apply, ReloadApply, LoadHelped, LinkHelped, Validate, HandOver, ReloadHandOver, Release, ReloadRelease, ClearHead, ReloadClear, LoadExit, LinkExit, ClearExit, ReleaseExit, Retract, pick}
 use Rattle.machine.specs.Kind.{Kind, Off, Reading, Opening, Looping, Exiting, Retracting, kind, off, calm}
-use Rattle.machine.specs.Run.{Config, idleTask}
+use Rattle.machine.specs.Run.{Config}
 use Rattle.machine.specs.History.{Nothing, Pends, Reads}
 use Rattle.machine.specs.Invariant.{headValue, content, OwnContent, Unlinked, NoMark, TaskSafe, Safe}
 use Rattle.machine.specs.Form.{OperationFormed, Formed}
