@@ -1,9 +1,8 @@
 -- The book of a step between the entries and the booking: a task that goes on stands as before, and one that ends has its response.
-use mathlib.Core.Path.{_≡_, refl, sym, _∙_, ap, subst}
+use mathlib.Core.Path.{_≡_, refl, sym, _∙_, ap}
 use mathlib.Core.Bool.{true, false}
 use mathlib.Core.Logic.{_≢_}
 use Prim.Native.Nat.{ℕ, _<_}
-use native.Mathlib.Decide.{ℕ-discrete}
 use Rattle.machine.specs.Object.{Object}
 use Rattle.machine.specs.Memory.{HeadValue, Content, Cell, Memory, stateOf}
 use Rattle.machine.specs.Machine.{Phase, ReadOnly, Announce, Poll, Next, Go, Turn, End}
@@ -14,9 +13,9 @@ use Rattle.machine.specs.Book.{Book, Done, Entering, none}
 use Rattle.machine.specs.Keeping.{enter, enterBy}
 use Rattle.machine.proofs.Update.{clash, update-same}
 use Rattle.machine.proofs.Effect.{Effect, Unchanged, Linked, Released, Cleared, Retracted, Applied, LinkedAt, ReleasedAt, HandedOver, Announced, effect, Allowed}
-use Rattle.machine.proofs.Related.{Standing, Waits, byContent, standing, standsAt, Shows, Paged, Related, Aside, stands-aside, not-held}
+use Rattle.machine.proofs.Related.{Waits, byContent, standing, standsAt, Paged, Related, shows-same, page-by, Aside, stands-aside, not-held}
 use Rattle.machine.proofs.Progress.{Onward, loops, leaves, exits, is-out, Progress, idles, reads, announces, applies, continues, retracts, enters-applied}
-use Rattle.machine.proofs.Entered.{withCells, enter-legal, enter-other, EnteredAs, enters-as, page-aside, related-applied}
+use Rattle.machine.proofs.Entered.{withCells, every-task, enter-legal, enter-other, EnteredAs, enters-as, page-aside, related-applied}
 
 -- The step of task i goes on to the phase f: over the new cells m every page is right by the old records, and the task
 -- stands the same by its new phase.
@@ -66,10 +65,6 @@ module _ (b : Object) (c : Config) (k : Book) (i : ℕ) where
   entries-legal retracts = none
 
   module _ (rel : Related c k) where
-    -- The own page, by a phase that is named.
-    own-page : {f : Phase} → c .task i .phase ≡ f → Shows (standsAt (c .memory) i (kind f)) i (c .task i .operation) (c .task i .steps) (k .page i)
-    own-page z = subst (λ (f : Phase). Shows (standsAt (c .memory) i (kind f)) i (c .task i .operation) (c .task i .steps) (k .page i)) z (rel .page i)
-
     -- A reader takes effect in the very step that ends it. It keeps the state.
     between-reads : c .task i .phase ≡ ReadOnly → b .good (stateOf (headValue (c .memory))) ≡ true → c .task i .operation < b .operations → b .changing (c .task i .operation) ≡ false
         → Ends c (c .memory) i (enter b i k) (b .outcome (stateOf (headValue (c .memory))) (c .task i .operation))
@@ -83,11 +78,11 @@ module _ (b : Object) (c : Config) (k : Book) (i : ℕ) where
         o = c .task i .operation
 
         done : EnteredAs b i o (c .task i .steps) k
-        done = enters-as b i o (c .task i .steps) k (own-page z)
+        done = enters-as b i o (c .task i .steps) k (page-by rel i z)
 
     -- An announced operation waits as before.
     between-announces : (o : ℕ) → c .task i .phase ≡ Announce → Allowed b (c .memory) i (Announced o) → Runs c (effect i (Announced o) (c .memory)) i k Poll
-    between-announces o z u = record { related = record { state = rel .state; page = λ t. at t (ℕ-discrete i t) }; stands = waits ∙ sym opening }
+    between-announces o z u = record { related = record { state = rel .state; page = every-task _ i own (page-aside b c k i rel (Announced o) u) }; stands = waits ∙ sym opening }
       where
         m : Memory
         m = effect i (Announced o) (c .memory)
@@ -99,11 +94,7 @@ module _ (b : Object) (c : Config) (k : Book) (i : ℕ) where
         opening = ap (λ (f : Phase). standsAt m i (kind f)) z
 
         own : Paged m i (c .task i) (k .page i)
-        own = subst (λ (s : Standing). Shows s i (c .task i .operation) (c .task i .steps) (k .page i)) (sym opening) (own-page z)
-
-        at : (t : ℕ) → Dec (i ≡ t) → Paged m t (c .task t) (k .page t)
-        at t (yes e) = subst (λ (s : ℕ). Paged m s (c .task s) (k .page s)) e own
-        at t (no d) = page-aside b c k i rel (Announced o) u t d
+        own = shows-same (sym opening) i (c .task i .operation) (c .task i .steps) (k .page i) (page-by rel i z)
 
     between-applies : (q j r : ℕ) {f : Phase} → c .task i .phase ≡ f → kind f ≡ Looping → Safe c → Allowed b (c .memory) i (Applied q j r) → Runs c (effect i (Applied q j r) (c .memory)) i (enter b j k) Poll
     between-applies q j r z l safe u = record {
@@ -131,4 +122,4 @@ module _ (b : Object) (c : Config) (k : Book) (i : ℕ) where
     between announces z p safe u g r = between-announces (c .task i .operation) z u
     between (applies {h} {j} {o} e) z p safe u g r = rw (enters-applied b (c .memory) i h j o k e) (between-applies _ j _ z refl safe u)
     between (continues {f′ = f′} {e = e} o s n) z p safe u g r = rw (n k) (between-continues e f′ z u o s)
-    between retracts z p safe u g r = record { state = rel .state; others = λ t d. page-aside b c k i rel Retracted u t d; page = own-page z }
+    between retracts z p safe u g r = record { state = rel .state; others = λ t d. page-aside b c k i rel Retracted u t d; page = page-by rel i z }

@@ -1,5 +1,5 @@
 -- Every call is booked: its entries and its booking are a legal step of the plain book, and the book stays related to the configuration.
-use mathlib.Core.Path.{_≡_, refl, sym, _∙_, ap, subst}
+use mathlib.Core.Path.{_≡_, refl, sym, _∙_, ap}
 use mathlib.Core.Bool.{Bool, true, false}
 use mathlib.Core.Logic.{_≢_}
 use Prim.Native.Nat.{ℕ, suc, _<_}
@@ -22,37 +22,41 @@ use Rattle.machine.proofs.Moved.{moved, Steps}
 use Rattle.machine.proofs.Calls.{Serving, begins, moves, serving, begin-task as task-unknown, begin-operation as operation-unknown, begin-pending as still-pending, step-task as no-task, step-idle as no-operation}
 use Rattle.machine.proofs.Own.{allowed}
 use Rattle.machine.proofs.Formed.{state-good}
-use Rattle.machine.proofs.Related.{Standing, Out, Waits, Answered, byHead, standing, standsAt, Shows, Paged, Related}
+use Rattle.machine.proofs.Related.{Standing, Out, Waits, Answered, byHead, standing, standsAt, Shows, Paged, Related, shows-same, page-by}
 use Rattle.machine.proofs.Progress.{Progress, progress}
 use Rattle.machine.proofs.Entered.{withCells}
 use Rattle.machine.proofs.Between.{Runs, Between, entries-legal, between}
 
 -- ---- Pages
 
-head-not-out : (h : HeadValue) (t : ℕ) → byHead h t ≢ Out
-head-not-out (Free q) t e = let z : _≡_ {A = ℕ} 0 1 = cc in omega arith
-head-not-out (Held q j r) t e = go (ℕ-discrete j t) e
+-- Whether a task has an operation, by its standing.
+abbrev present : Standing → Bool
+present Out = false
+present Waits = true
+present (Answered r) = true
+
+head-present : (h : HeadValue) (t : ℕ) → present (byHead h t) ≡ true
+head-present (Free q) t = refl
+head-present (Held q j r) t = go (ℕ-discrete j t)
   where
-    go : (d : Dec (j ≡ t)) → either d (Answered r) Waits ≢ Out
-    go (yes _) e = let z : _≡_ {A = ℕ} 0 1 = cc in omega arith
-    go (no _) e = let z : _≡_ {A = ℕ} 0 1 = cc in omega arith
+    go : (d : Dec (j ≡ t)) → present (either d (Answered r) Waits) ≡ true
+    go (yes _) = refl
+    go (no _) = refl
 
--- A task with an operation pending is not out.
-pending-not-out : (d : Kind) (a : Content) (h : HeadValue) (t : ℕ) → off d ≡ false → standing d a h t ≢ Out
-pending-not-out Off a h t p e = clash refl p
-pending-not-out Reading a h t p e = let z : _≡_ {A = ℕ} 0 1 = cc in omega arith
-pending-not-out Opening a h t p e = let z : _≡_ {A = ℕ} 0 1 = cc in omega arith
-pending-not-out Looping Empty h t p e = let z : _≡_ {A = ℕ} 0 1 = cc in omega arith
-pending-not-out Looping (Op x) h t p e = head-not-out h t e
-pending-not-out Looping (Resp v) h t p e = let z : _≡_ {A = ℕ} 0 1 = cc in omega arith
-pending-not-out (Exiting v) a h t p e = let z : _≡_ {A = ℕ} 0 1 = cc in omega arith
-pending-not-out (Retracting v) a h t p e = let z : _≡_ {A = ℕ} 0 1 = cc in omega arith
+pending-present : (d : Kind) (a : Content) (h : HeadValue) (t : ℕ) → off d ≡ false → present (standing d a h t) ≡ true
+pending-present Off a h t p = clash refl p
+pending-present Reading a h t p = refl
+pending-present Opening a h t p = refl
+pending-present Looping Empty h t p = refl
+pending-present Looping (Op x) h t p = head-present h t
+pending-present Looping (Resp v) h t p = refl
+pending-present (Exiting v) a h t p = refl
+pending-present (Retracting v) a h t p = refl
 
--- The page of a task that is not out is not idle.
-shows-not-idle : (s : Standing) (t o c : ℕ) (p : Page) → s ≢ Out → Shows s t o c p → p ≡ Page.Idle → ⊥
-shows-not-idle Out t o c p n y e = n refl
-shows-not-idle Waits t o c p n (place, y) e = let z : _≡_ {A = ℕ} 0 1 = cc in omega arith
-shows-not-idle (Answered r) t o c p n y e = let z : _≡_ {A = ℕ} 0 1 = cc in omega arith
+present-page : (s : Standing) (t o c : ℕ) (p : Page) → present s ≡ true → Shows s t o c p → p ≡ Page.Idle → ⊥
+present-page Out t o c p n y e = clash n refl
+present-page Waits t o c p n (place, y) e = let z : _≡_ {A = ℕ} 0 1 = cc in omega arith
+present-page (Answered r) t o c p n y e = let z : _≡_ {A = ℕ} 0 1 = cc in omega arith
 
 -- One more step on a page.
 shows-counted : (s : Standing) (t o c : ℕ) (p : Page) → Shows s t o c p → Shows s t o (suc c) (counted p)
@@ -80,10 +84,7 @@ pub record Books (b : Object) (n place : ℕ) (x : Call) (c : Config) (k : Book)
 
 module _ (c : Config) (k : Book) (rel : Related c k) (i : ℕ) where
   pending-page : off (kind (c .task i .phase)) ≡ false → k .page i ≡ Page.Idle → ⊥
-  pending-page p e = shows-not-idle (standsAt (c .memory) i (kind (c .task i .phase))) i _ _ (k .page i) (pending-not-out (kind (c .task i .phase)) _ _ i p) (rel .page i) e
-
-  idle-page : c .task i .phase ≡ Idle → k .page i ≡ Page.Idle
-  idle-page e = subst (λ (f : Phase). Shows (standsAt (c .memory) i (kind f)) i (c .task i .operation) (c .task i .steps) (k .page i)) e (rel .page i)
+  pending-page p e = present-page (standsAt (c .memory) i (kind (c .task i .phase))) i _ _ (k .page i) (pending-present (kind (c .task i .phase)) _ _ i p) (rel .page i) e
 
 module _ (b : Object) (n place : ℕ) (c : Config) where
   -- The booking of a step of task i in the book l that leads to y, over the new cells m.
@@ -92,23 +93,28 @@ module _ (b : Object) (n place : ℕ) (c : Config) where
     related : Related (record { memory = m; task = update (c .task) i (advance n (c .task i) y) }) (booked place (Step i) (answerOf (c .task i .steps) y) l)
 
   module _ (m : Memory) (i : ℕ) (l : Book) (below : i < n) where
+    -- A step that runs: one more on the page.
     booking-runs : (p : Page) → l .page i ≡ p → (p ≡ Page.Idle → ⊥) → Booking b n place l (Step i) Running (turned i (counted p) l)
     booking-runs Page.Idle e z = absurd (z refl)
     booking-runs (Waiting x s) e z = running-waiting below e
     booking-runs (Done r s) e z = running-done below e
 
-    own-runs : {f : Phase} → Runs c m i l f → Shows (standsAt m i (kind f)) i (c .task i .operation) (suc (c .task i .steps)) (counted (l .page i))
-    own-runs u = subst (λ (s : Standing). Shows s i (c .task i .operation) (suc (c .task i .steps)) (counted (l .page i))) (sym (u .stands)) (shows-counted (standsAt m i (kind (c .task i .phase))) i (c .task i .operation) (c .task i .steps) (l .page i) (u .related .page i))
+    books-runs : {f : Phase} → off (kind (c .task i .phase)) ≡ false → Runs c m i l f → Booking b n place l (Step i) Running (turned i (counted (l .page i)) l)
+    books-runs p u = booking-runs (l .page i) refl (pending-page (withCells c m) l (u .related) i p)
+
+    related-runs : {f : Phase} (p : ℕ) → Runs c m i l f
+        → Related (record { memory = m; task = update (c .task) i (record { phase = f; operation = c .task i .operation; priority = p; steps = suc (c .task i .steps) }) }) (turned i (counted (l .page i)) l)
+    related-runs {f} p u = record { state = u .related .state; page = pages-changed m c l i _ _ own (λ t _. u .related .page t) }
+      where
+        counts : Shows (standsAt m i (kind (c .task i .phase))) i (c .task i .operation) (suc (c .task i .steps)) (counted (l .page i))
+        counts = shows-counted (standsAt m i (kind (c .task i .phase))) i (c .task i .operation) (c .task i .steps) (l .page i) (u .related .page i)
+
+        own : Shows (standsAt m i (kind f)) i (c .task i .operation) (suc (c .task i .steps)) (counted (l .page i))
+        own = shows-same (sym (u .stands)) i (c .task i .operation) (suc (c .task i .steps)) (counted (l .page i)) counts
 
     books-step : (y : Next) → off (kind (c .task i .phase)) ≡ false → Between c m i l y → BooksStep m i l y
-    books-step (Go f) p u = record {
-      booking = booking-runs (l .page i) refl (pending-page (withCells c m) l (u .related) i p);
-      related = record { state = u .related .state; page = pages-changed m c l i _ _ (own-runs u) (λ t _. u .related .page t) };
-    }
-    books-step (Turn f) p u = record {
-      booking = booking-runs (l .page i) refl (pending-page (withCells c m) l (u .related) i p);
-      related = record { state = u .related .state; page = pages-changed m c l i _ _ (own-runs u) (λ t _. u .related .page t) };
-    }
+    books-step (Go f) p u = record { booking = books-runs p u; related = related-runs _ u }
+    books-step (Turn f) p u = record { booking = books-runs p u; related = related-runs _ u }
     books-step (End v) p u = record { booking = ended below (u .page); related = record { state = u .state; page = pages-changed m c l i _ _ refl (u .others) } }
 
 module _ (b : Object) (n place : ℕ) (c : Config) (k : Book) (rel : Related c k) where
@@ -118,13 +124,13 @@ module _ (b : Object) (n place : ℕ) (c : Config) (k : Book) (rel : Related c k
   books-through {x} {s} {l} e f u r = record { legal = record { between = l; entering = f; booking = rw e u }; related = rw e r }
 
   books-begun : {i o : ℕ} → i < n → o < b .operations → c .task i .phase ≡ Idle → Books b n place (Begin i o) c k (began b i o c)
-  books-begun {i} {o} h l e = books-through refl none (begun h l (idle-page c k rel i e)) (record { state = rel .state; page = pages-changed (c .memory) c k i _ _ own (λ t _. rel .page t) })
+  books-begun {i} {o} h l e = books-through refl none (begun h l (page-by rel i e)) (record { state = rel .state; page = pages-changed (c .memory) c k i _ _ own (λ t _. rel .page t) })
     where
       first : Page
       first = Waiting (record { place = place; task = i; operation = o }) 0
 
       own : Paged (c .memory) i (record { phase = firstPhase (b .changing o); operation = o; priority = c .task i .priority; steps = 0 }) first
-      own = subst (λ (s : Standing). Shows s i o 0 first) (sym (begins-waiting (c .memory) i (b .changing o))) (place, refl)
+      own = shows-same (sym (begins-waiting (c .memory) i (b .changing o))) i o 0 first (place, refl)
 
   -- The entries before a step: by the task's phase, and none for a number that is no task's.
   enters-below : {i : ℕ} → i < n → enterFor b n (Step i) c k ≡ enterBy b (c .memory) i (c .task i .phase) k
@@ -163,7 +169,7 @@ module _ (b : Object) (n place : ℕ) (c : Config) (k : Book) (rel : Related c k
     books (still-pending {i = i} h l e) = books-through refl none (begin-pending h l (pending-page c k rel i e)) rel
     books (moves h e v) = books-moved h e v
     books (no-task h) = books-through (enters-beyond h) none (step-task h) rel
-    books (no-operation {i = i} h e) = books-through (enters-idle h e) none (step-idle h (idle-page c k rel i e)) rel
+    books (no-operation {i = i} h e) = books-through (enters-idle h e) none (step-idle h (page-by rel i e)) rel
 
     -- The call x at a place is a legal step of the book, and leaves it related.
     pub legal-serve : (x : Call) → Legal b n place (record { call = x; answer = serve b n x c .answer }) k (keep b n place x c k)

@@ -12,11 +12,19 @@ use Rattle.machine.specs.Book.{Operation, Book, Page, Waiting, Done, ent
 use Rattle.machine.specs.Keeping.{enter, enterPage}
 use Rattle.machine.proofs.Update.{update-same, update-other, either-yes}
 use Rattle.machine.proofs.Effect.{Effect, Applied, effect, Allowed}
-use Rattle.machine.proofs.Related.{Standing, Waits, Answered, byHead, byContent, standing, Shows, Paged, Related, Aside, stands-aside}
+use Rattle.machine.proofs.Related.{Waits, Answered, byHead, byContent, standing, Shows, Paged, Related, shows-same, Aside, stands-aside}
 
 -- The configuration with other cells.
 abbrev pub withCells : Config → Memory → Config
 withCells c m = record { memory = m; task = c .task }
+
+-- What holds of task j, and of every other task, holds of all.
+pub every-task : (P : ℕ → Type 0) (j : ℕ) → P j → ((t : ℕ) → j ≢ t → P t) → (t : ℕ) → P t
+every-task P j own others t = go (ℕ-discrete j t)
+  where
+    go : Dec (j ≡ t) → P t
+    go (yes e) = subst P e own
+    go (no n) = others t n
 
 module _ (b : Object) where
   -- A task is entered only if it waits.
@@ -63,11 +71,11 @@ op-loops a x o (Retracting v) e y = (cc, cc)
 module _ (b : Object) (c : Config) (k : Book) (i : ℕ) (rel : Related c k) where
   -- A page that shows the standing before an effect shows it after one that is no matter of its task.
   pub page-aside : (e : Effect) → Allowed b (c .memory) i e → (t : ℕ) → Aside i t e → Paged (effect i e (c .memory)) t (c .task t) (k .page t)
-  page-aside e u t n = subst (λ (s : Standing). Shows s t (c .task t .operation) (c .task t .steps) (k .page t)) (sym (stands-aside b (c .memory) i t e u n (kind (c .task t .phase)))) (rel .page t)
+  page-aside e u t n = shows-same (sym (stands-aside b (c .memory) i t e u n (kind (c .task t .phase)))) t (c .task t .operation) (c .task t .steps) (k .page t) (rel .page t)
 
   -- The operation of task j is applied: the task is entered.
   pub related-applied : Safe c → (q j r : ℕ) → Allowed b (c .memory) i (Applied q j r) → Related (withCells c (effect i (Applied q j r) (c .memory))) (enter b j k)
-  related-applied safe q j r (a, x, free, op, next, outcome) = record { state = done .state ∙ reached; page = λ t. at t (ℕ-discrete j t) }
+  related-applied safe q j r (a, x, free, op, next, outcome) = record { state = done .state ∙ reached; page = every-task _ j own others }
     where
       m : Memory
       m = c .memory
@@ -82,7 +90,7 @@ module _ (b : Object) (c : Config) (k : Book) (i : ℕ) (rel : Related c k) wher
       stood h = ap (λ (d : Kind). standing d (content m j) h j) (work .0) ∙ ap (λ (y : Content). byContent y h j) op
 
       done : EnteredAs b j o (c .task j .steps) k
-      done = enters-as b j o (c .task j .steps) k (subst (λ (s : Standing). Shows s j o (c .task j .steps) (k .page j)) (stood (headValue m) ∙ ap (λ (h : HeadValue). byHead h j) free) (rel .page j))
+      done = enters-as b j o (c .task j .steps) k (shows-same (stood (headValue m) ∙ ap (λ (h : HeadValue). byHead h j) free) j o (c .task j .steps) (k .page j) (rel .page j))
 
       base : k .state ≡ a
       base = rel .state ∙ ap stateOf free
@@ -91,8 +99,7 @@ module _ (b : Object) (c : Config) (k : Book) (i : ℕ) (rel : Related c k) wher
       reached = rw (base, ← work .1) (sym next)
 
       own : Paged (effect i (Applied q j r) m) j (c .task j) (enter b j k .page j)
-      own = subst (λ (s : Standing). Shows s j o (c .task j .steps) (enter b j k .page j)) (sym (stood (Held q j r) ∙ either-yes (ℕ-discrete j j) (Answered r) Waits refl)) (done .page ∙ rw (base, ← work .1, ← outcome) refl)
+      own = shows-same (sym (stood (Held q j r) ∙ either-yes (ℕ-discrete j j) (Answered r) Waits refl)) j o (c .task j .steps) (enter b j k .page j) (done .page ∙ rw (base, ← work .1, ← outcome) refl)
 
-      at : (t : ℕ) → Dec (j ≡ t) → Paged (effect i (Applied q j r) m) t (c .task t) (enter b j k .page t)
-      at t (yes e) = subst (λ (s : ℕ). Paged (effect i (Applied q j r) m) s (c .task s) (enter b j k .page s)) e own
-      at t (no d) = rw (enter-other b j t k d) (page-aside (Applied q j r) (a, x, free, op, next, outcome) t d)
+      others : (t : ℕ) → j ≢ t → Paged (effect i (Applied q j r) m) t (c .task t) (enter b j k .page t)
+      others t d = rw (enter-other b j t k d) (page-aside (Applied q j r) (a, x, free, op, next, outcome) t d)

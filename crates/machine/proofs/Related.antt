@@ -1,11 +1,11 @@
 -- How the plain book and a configuration are related: what stands on a task's page follows from its record and the cells.
-use mathlib.Core.Path.{_≡_, refl, sym, _∙_, ap}
+use mathlib.Core.Path.{_≡_, refl, sym, _∙_, ap, subst}
 use mathlib.Core.Logic.{_≢_}
 use Prim.Native.Nat.{ℕ}
 use native.Mathlib.Decide.{ℕ-discrete}
 use Rattle.machine.specs.Object.{Object}
 use Rattle.machine.specs.Memory.{HeadValue, Free, Held, Content, Empty, Op, Resp, Cell, Memory, stateOf, either, update}
-use Rattle.machine.specs.Machine.{Task}
+use Rattle.machine.specs.Machine.{Phase, Task}
 use Rattle.machine.specs.Kind.{Kind, Off, Reading, Opening, Looping, Exiting, Retracting, kind}
 use Rattle.machine.specs.Run.{Config, start}
 use Rattle.machine.specs.Book.{Book, Page, Waiting, Done, blank}
@@ -54,6 +54,14 @@ Paged m t x p = Shows (standsAt m t (kind (x .phase))) t (x .operation) (x .step
 pub record Related (c : Config) (k : Book) : Type 0 where
   pub state : k .state ≡ stateOf (headValue (c .memory))
   pub page : (t : ℕ) → Paged (c .memory) t (c .task t) (k .page t)
+
+-- Equal standings show the same.
+pub shows-same : {s s′ : Standing} → s ≡ s′ → (t o c : ℕ) (p : Page) → Shows s t o c p → Shows s′ t o c p
+shows-same e t o c p y = subst (λ (s : Standing). Shows s t o c p) e y
+
+-- The page of task t, by its phase.
+pub page-by : {c : Config} {k : Book} → Related c k → (t : ℕ) {f : Phase} → c .task t .phase ≡ f → Shows (standsAt (c .memory) t (kind f)) t (c .task t .operation) (c .task t .steps) (k .page t)
+page-by {c} {k} rel t e = shows-same (ap (λ (f : Phase). standsAt (c .memory) t (kind f)) e) t (c .task t .operation) (c .task t .steps) (k .page t) (rel .page t)
 
 pub related-start : (q : ℕ) → Related (start q) (blank q)
 related-start q = record { state = refl; page = λ t. refl }
