@@ -12,9 +12,9 @@ use Rattle.machine.specs.Machine.{Phase, Task, linked, released, Next, G
 use Rattle.machine.specs.Kind.{kind, off}
 use Rattle.machine.specs.Run.{Config, Call, Served, start, idleTask, firstPhase, serve, run}
 use Rattle.machine.specs.Invariant.{TaskSafe, Safe}
-use Rattle.machine.specs.Form.{HeadValueFormed, ContentFormed, CellFormed, AnnouncementFormed, MemoryFormed, PhaseFormed, OperationFormed, TaskFormed, Formed}
+use Rattle.machine.specs.Form.{HeadValueFormed, ContentFormed, CellFormed, HeadFormed, AnnouncementFormed, MemoryFormed, PhaseFormed, OperationFormed, TaskFormed, Formed}
 use Rattle.machine.proofs.Update.{clash, update-all}
-use Rattle.machine.proofs.Effect.{Effect, Unchanged, Linked, Released, Cleared, Retracted, Applied, LinkedAt, ReleasedAt, HandedOver, Announced, effect, withAnnouncement}
+use Rattle.machine.proofs.Effect.{Effect, Unchanged, Linked, Released, Cleared, Retracted, Applied, LinkedAt, ReleasedAt, HandedOver, Announced, effect, withHead, withAnnouncement}
 use Rattle.machine.proofs.Branch.{Branch, stay-idle, read-only, announce, poll-response, poll-waits, load-head, link-free, link-held, link-fails, priority-waits, priority-rests, own-waits, own-response, own-empty, apply, apply-fails, reload-apply, reload-apply-lost, load-helped, link-helped, link-rested, link-helped-fails, validate, validate-fails, hand-over, hand-over-fails, reload-hand-over, reload-hand-over-lost, release, release-fails, reload-release, reload-release-lost, clear, clear-fails, reload-clear, reload-clear-lost, exit-clear, exit-release, exit-link, exit-retract, link-exit, link-exit-fails, clear-exit, clear-exit-fails, release-exit, release-exit-fails, retract}
 use Rattle.machine.proofs.Moved.{moved, Steps}
 use Rattle.machine.proofs.Calls.{Serving, begins, begin-task, begin-operation, begin-pending, moves, step-task, step-idle, serving}
@@ -57,8 +57,11 @@ module _ (b : Object) (n : ℕ) where
   EffectFormed (HandedOver j r) = (j < n) × (r < b .outcomes)
   EffectFormed (Announced o) = o < b .operations
 
-  with-formed : {m : Memory} → MemoryFormed b n m → (j : ℕ) (a : Cell Content) → j < n → AnnouncementFormed b n a → MemoryFormed b n (withAnnouncement m j a)
-  with-formed {m} s j a h y = record {
+  head-formed : {m : Memory} → MemoryFormed b n m → {h : Cell HeadValue} → HeadFormed b n h → MemoryFormed b n (withHead m h)
+  head-formed s y = record { head = y; announcement = s .announcement; untouched = s .untouched }
+
+  announcement-formed : {m : Memory} → MemoryFormed b n m → (j : ℕ) {a : Cell Content} → j < n → AnnouncementFormed b n a → MemoryFormed b n (withAnnouncement m j a)
+  announcement-formed {m} s j {a} h y = record {
     head = s .head;
     announcement = update-all (m .announcement) j a (λ _ (c : Cell Content). AnnouncementFormed b n c) y (λ k _. s .announcement k);
     untouched = update-all (m .announcement) j a (λ k (c : Cell Content). (k < n → ⊥) → c ≡ unmarked Empty) (λ d. absurd (d h)) (λ k _. s .untouched k);
@@ -66,15 +69,15 @@ module _ (b : Object) (n : ℕ) where
 
   effect-formed : {i : ℕ} → i < n → {m : Memory} → MemoryFormed b n m → (e : Effect) → EffectFormed e → MemoryFormed b n (effect i e m)
   effect-formed h s Unchanged u = s
-  effect-formed h s Linked u = record { head = linked-formed h (s .head); announcement = s .announcement; untouched = s .untouched }
-  effect-formed h s Released u = record { head = released-formed h (s .head); announcement = s .announcement; untouched = s .untouched }
-  effect-formed h {m} s Cleared u = record { head = unmarked-formed (state-good (m .head .value) (s .head .value)); announcement = s .announcement; untouched = s .untouched }
-  effect-formed h s Retracted u = with-formed s _ _ h (unmarked-formed tt)
-  effect-formed h s (Applied q j r) u = record { head = unmarked-formed u; announcement = s .announcement; untouched = s .untouched }
-  effect-formed h s (LinkedAt j) u = with-formed s j _ u (linked-formed h (s .announcement j))
-  effect-formed h s (ReleasedAt j) u = with-formed s j _ u (released-formed h (s .announcement j))
-  effect-formed h s (HandedOver j r) u = with-formed s j _ (u .0) (unmarked-formed (u .1))
-  effect-formed h s (Announced o) u = with-formed s _ _ h (unmarked-formed u)
+  effect-formed h s Linked u = head-formed s (linked-formed h (s .head))
+  effect-formed h s Released u = head-formed s (released-formed h (s .head))
+  effect-formed h {m} s Cleared u = head-formed s (unmarked-formed (state-good (m .head .value) (s .head .value)))
+  effect-formed {i} h s Retracted u = announcement-formed s i h (unmarked-formed tt)
+  effect-formed h s (Applied q j r) u = head-formed s (unmarked-formed u)
+  effect-formed h s (LinkedAt j) u = announcement-formed s j u (linked-formed h (s .announcement j))
+  effect-formed h s (ReleasedAt j) u = announcement-formed s j u (released-formed h (s .announcement j))
+  effect-formed h s (HandedOver j r) u = announcement-formed s j (u .0) (unmarked-formed (u .1))
+  effect-formed {i} h s (Announced o) u = announcement-formed s i h (unmarked-formed u)
 
   -- ---- A step of task i
 

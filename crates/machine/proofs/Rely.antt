@@ -17,6 +17,10 @@ use Rattle.machine.proofs.Branches.{free-not}
 abbrev pub Stays : {A : Type 0} → ℕ → Cell A → Cell A → Type 0
 Stays i c c′ = has i (c′ .marks) ≡ true → (has i (c .marks) ≡ true) × (c′ .value ≡ c .value)
 
+-- A cell that is alike for task i: the same value, and the own mark as before.
+abbrev Alike : {A : Type 0} → ℕ → Cell A → Cell A → Type 0
+Alike i c c′ = (c′ .value ≡ c .value) × (has i (c′ .marks) ≡ has i (c .marks))
+
 -- An announcement as its owner sees it while others step: an operation may turn into a response.
 abbrev pub Grows : Content → Content → Type 0
 Grows Empty a = a ≡ Empty
@@ -87,30 +91,36 @@ module _ {i : ℕ} {m : Memory} where
       changed : (P : ℕ → Cell Content → Type 0) → P k a → ((j : ℕ) → k ≢ j → P j (m .announcement j)) → (j : ℕ) → P j (withAnnouncement m k a .announcement j)
       changed = update-all (m .announcement) k a
 
--- Another task's mark, added or taken away, changes nothing for task i.
-module _ {A : Type 0} {i k : ℕ} (n : i ≢ k) (c : Cell A) where
-  stays-linked : Stays i c (linked k c)
-  stays-linked e = (sym (has-add-other i k _ n) ∙ e, refl)
+  -- A head, and an announcement, that is alike for task i.
+  alike-head : (h : Cell HeadValue) → Alike i (m .head) h → Rely i m (withHead m h)
+  alike-head h (v, y) = rely-head h (λ z. (sym y ∙ z, v)) (λ _ e n. rw v n) (λ _ _ _ _ e f z. y ∙ z)
 
-  stays-released : Stays i c (released k c)
-  stays-released e = (sym (has-remove-other i k _ n) ∙ e, refl)
+  alike-announcement : (k : ℕ) (a : Cell Content) → Alike i (m .announcement k) a → Rely i m (withAnnouncement m k a)
+  alike-announcement k a (v, y) = rely-announcement k a (λ z. (sym y ∙ z, v)) (λ _. rw v (grows-same (content m k))) (λ _ _ _ f. v ∙ f) (λ _ _ _ f. rw v f) (λ _ _ _ f g. clash f (sym y ∙ g))
+
+  -- Another task, not the holder and not waiting, writes its own announcement.
+  rely-writer : {k : ℕ} → i ≢ k → (v : Content) → NotHolder (headValue m) k → ((o : ℕ) → content m k ≡ Op o → v ≡ Op o) → Rely i m (withAnnouncement m k (unmarked v))
+  rely-writer {k} n v f g = rely-announcement k (unmarked v) (no-mark i) (λ z. absurd (n (sym z))) (λ _ o _. g o) (λ _ _ e _. absurd (f _ _ e)) (λ _ _ e _ _. absurd (f _ _ e))
 
 module _ (b : Object) (m : Memory) {i k : ℕ} (n : i ≢ k) where
-  -- Another task's mark in an announcement, added or taken away.
-  rely-marks : (j : ℕ) (a : Cell Content) → Stays i (m .announcement j) a → a .value ≡ content m j → has i (a .marks) ≡ inAnnouncement m i j → Rely i m (withAnnouncement m j a)
-  rely-marks j a stays e f = rely-announcement j a stays (λ _. rw e (grows-same (content m j))) (λ _ _ _ g. e ∙ g) (λ _ _ _ g. rw e g) (λ _ _ _ g h. clash g (sym f ∙ h))
+  -- Another task's mark, added or taken away.
+  alike-linked : {A : Type 0} (c : Cell A) → Alike i c (linked k c)
+  alike-linked c = (refl, has-add-other i k _ n)
+
+  alike-released : {A : Type 0} (c : Cell A) → Alike i c (released k c)
+  alike-released c = (refl, has-remove-other i k _ n)
 
   pub relies : (e : Effect) → Allowed b m k e → Rely i m (effect k e m)
-  relies Unchanged u = rely-head (m .head) (λ e. (e, refl)) (λ _ e f. f) (λ _ _ _ _ e f g. g)
-  relies Linked u = rely-head (linked k (m .head)) (stays-linked n (m .head)) (λ _ e f. f) (λ _ _ _ _ e f g. has-add-other i k _ n ∙ g)
-  relies Released u = rely-head (released k (m .head)) (stays-released n (m .head)) (λ _ e f. f) (λ _ _ _ _ e f g. has-remove-other i k _ n ∙ g)
+  relies Unchanged u = alike-head (m .head) (refl, refl)
+  relies Linked u = alike-head (linked k (m .head)) (alike-linked (m .head))
+  relies Released u = alike-head (released k (m .head)) (alike-released (m .head))
   relies Cleared (q, j, r, e, y) = rely-head (cleared (m .head)) (no-mark i) (λ _ _ _. free-not refl) (λ _ j′ _ _ f g _. let z : j ≡ j′ = cc in absurd (not-response g (rw z at y)))
-  relies Retracted (v, e, f) = rely-announcement k (unmarked Empty) (no-mark i) (λ z. absurd (n (sym z))) (λ _ _ _ g. cc) (λ _ _ g _. absurd (f _ _ g)) (λ _ _ g _ _. absurd (f _ _ g))
+  relies Retracted (v, e, f) = rely-writer n Empty f (λ o g. cc)
   relies (Applied q j r) (c, x, e, f, _, _) = rely-head (unmarked (Held q j r)) (no-mark i) (λ _ g _ q′ r′ z. let u : _≡_ {A = ℕ} 0 1 = cc in omega arith) (λ _ _ _ _ g _ _. cc)
-  relies (LinkedAt j) u = rely-marks j (linked k (m .announcement j)) (stays-linked n (m .announcement j)) refl (has-add-other i k _ n)
-  relies (ReleasedAt j) u = rely-marks j (released k (m .announcement j)) (stays-released n (m .announcement j)) refl (has-remove-other i k _ n)
+  relies (LinkedAt j) u = alike-announcement j (linked k (m .announcement j)) (alike-linked (m .announcement j))
+  relies (ReleasedAt j) u = alike-announcement j (released k (m .announcement j)) (alike-released (m .announcement j))
   relies (HandedOver j r) (q, x, e, f) = rely-announcement j (unmarked (Resp r)) (no-mark i) (λ _. rw f tt) (λ _ _ g _. cc) (λ _ _ _ _. tt) (λ _ _ _ _ _. tt)
-  relies (Announced o) (e, f) = rely-announcement k (unmarked (Op o)) (no-mark i) (λ z. absurd (n (sym z))) (λ _ _ _ g. cc) (λ _ _ g _. absurd (f _ _ g)) (λ _ _ g _ _. absurd (f _ _ g))
+  relies (Announced o) (e, f) = rely-writer n (Op o) f (λ o′ g. cc)
 
 -- G1 stands after each effect.
 module _ (b : Object) (m : Memory) (i : ℕ) (all : (j : ℕ) → HolderAnnounces m j) where
