@@ -4,17 +4,21 @@ use mathlib.Core.Bool.{true, false}
 use mathlib.Core.Logic.{_≢_}
 use Prim.Native.Nat.{ℕ, _<_}
 use Rattle.machine.specs.Object.{Object}
-use Rattle.machine.specs.Memory.{HeadValue, Content, Cell, Memory, stateOf}
+use Rattle.machine.specs.Memory.{Content, Cell, Memory, stateOf}
 use Rattle.machine.specs.Machine.{Phase, ReadOnly, Announce, Poll, Next, Go, Turn, End}
-use Rattle.machine.specs.Kind.{Kind, Looping, kind, off}
+use Rattle.machine.specs.Kind.{Looping, kind, off}
 use Rattle.machine.specs.Run.{Config}
 use Rattle.machine.specs.Invariant.{headValue, content, Safe}
+use Rattle.machine.specs.Form.{OperationFormed, Formed}
 use Rattle.machine.specs.Book.{Book, Done, Entering, none}
 use Rattle.machine.specs.Keeping.{enter, enterBy}
 use Rattle.machine.proofs.Update.{clash, update-same}
 use Rattle.machine.proofs.Effect.{Effect, Unchanged, Linked, Released, Cleared, Retracted, Applied, LinkedAt, ReleasedAt, HandedOver, Announced, effect, Allowed}
-use Rattle.machine.proofs.Related.{Waits, byContent, standing, standsAt, Paged, Related, shows-same, page-by, Aside, stands-aside, not-held}
-use Rattle.machine.proofs.Progress.{Onward, loops, leaves, exits, is-out, Progress, idles, reads, announces, applies, continues, retracts, enters-applied}
+use Rattle.machine.proofs.Moved.{Steps}
+use Rattle.machine.proofs.Own.{allowed}
+use Rattle.machine.proofs.Formed.{state-good}
+use Rattle.machine.proofs.Related.{Waits, byContent, standsAt, Paged, Related, shows-same, page-by, Aside, stands-aside, not-held}
+use Rattle.machine.proofs.Progress.{Onward, Progress, idles, reads, announces, applies, continues, retracts, progress, enters-applied}
 use Rattle.machine.proofs.Entered.{withCells, every-task, enter-legal, enter-other, EnteredAs, enters-as, page-aside, related-applied}
 
 -- The step of task i goes on to the phase f: over the new cells m every page is right by the old records, and the task
@@ -47,22 +51,18 @@ state-aside m i (ReleasedAt j) n = refl
 state-aside m i (HandedOver j r) n = refl
 state-aside m i (Announced o) n = refl
 
--- On the way from one kind to the next a task stands the same, over every head.
-onward-stands : {a : Content} {d d′ : Kind} → Onward a d d′ → (h : HeadValue) (t : ℕ) → standing d′ a h t ≡ standing d a h t
-onward-stands loops h t = refl
-onward-stands (leaves e) h t = rw e refl
-onward-stands exits h t = refl
-onward-stands is-out h t = refl
-
 module _ (b : Object) (c : Config) (k : Book) (i : ℕ) where
   -- Before a step only waiting tasks are entered.
-  pub entries-legal : {f : Phase} {e : Effect} {y : Next} → Progress b (c .memory) i (c .task i .operation) f e y → Entering b k (enterBy b (c .memory) i f k)
-  entries-legal idles = none
-  entries-legal reads = enter-legal b i k
-  entries-legal announces = none
-  entries-legal (applies {h} {j} {o} e) = rw (enters-applied b (c .memory) i h j o k e) (enter-legal b j k)
-  entries-legal (continues _ _ n) = rw (n k) none
-  entries-legal retracts = none
+  entries-by : {f : Phase} {e : Effect} {y : Next} → Progress b (c .memory) i (c .task i .operation) f e y → Entering b k (enterBy b (c .memory) i f k)
+  entries-by idles = none
+  entries-by reads = enter-legal b i k
+  entries-by announces = none
+  entries-by (applies {h} {j} {o} e) = rw (enters-applied b (c .memory) i h j o k e) (enter-legal b j k)
+  entries-by (continues _ _ n) = rw (n k) none
+  entries-by retracts = none
+
+  pub entries-legal : {e : Effect} {y : Next} → Steps b i c e y → Entering b k (enterBy b (c .memory) i (c .task i .phase) k)
+  entries-legal v = entries-by (progress b (c .memory) i (c .task i .priority) (c .task i .operation) v)
 
   module _ (rel : Related c k) where
     -- A reader takes effect in the very step that ends it. It keeps the state.
@@ -102,24 +102,31 @@ module _ (b : Object) (c : Config) (k : Book) (i : ℕ) where
       stands = sym (ap (λ (f : Phase). standsAt (effect i (Applied q j r) (c .memory)) i (kind f)) z ∙ ap (standsAt (effect i (Applied q j r) (c .memory)) i) l);
     }
 
-    between-continues : {f : Phase} (e : Effect) (f′ : Phase) → c .task i .phase ≡ f → Allowed b (c .memory) i e → Onward (content (c .memory) i) (kind f) (kind f′) → ((s t : ℕ) → Aside s t e)
+    between-continues : {f : Phase} (e : Effect) (f′ : Phase) → c .task i .phase ≡ f → Allowed b (c .memory) i e → Onward (content (c .memory) i) i (kind f) (kind f′) → ((s t : ℕ) → Aside s t e)
         → Runs c (effect i e (c .memory)) i k f′
     between-continues {f} e f′ z u o s = record {
       related = record { state = rel .state ∙ sym (state-aside (c .memory) i e s); page = λ t. page-aside b c k i rel e u t (s i t) };
-      stands = aside f′ ∙ onward-stands o (headValue (c .memory)) i ∙ sym (aside f) ∙ sym (ap (λ (g : Phase). standsAt (effect i e (c .memory)) i (kind g)) z);
+      stands = aside f′ ∙ o .2 (headValue (c .memory)) ∙ sym (aside f) ∙ sym (ap (λ (g : Phase). standsAt (effect i e (c .memory)) i (kind g)) z);
     }
       where
         aside : (g : Phase) → standsAt (effect i e (c .memory)) i (kind g) ≡ standsAt (c .memory) i (kind g)
         aside g = stands-aside b (c .memory) i i e u (s i i) (kind g)
 
-    -- Every step, if its effect is allowed and a reader's operation is reading.
-    pub between : {f : Phase} {e : Effect} {y : Next} → Progress b (c .memory) i (c .task i .operation) f e y → c .task i .phase ≡ f → off (kind f) ≡ false
-        → Safe c → Allowed b (c .memory) i e → b .good (stateOf (headValue (c .memory))) ≡ true
-        → (f ≡ ReadOnly → (c .task i .operation < b .operations) × (b .changing (c .task i .operation) ≡ false))
+    -- A step by its phase f, if its effect is allowed and a reader's operation is reading.
+    between-by : {f : Phase} {e : Effect} {y : Next} → Progress b (c .memory) i (c .task i .operation) f e y → c .task i .phase ≡ f → off (kind f) ≡ false
+        → Safe c → Allowed b (c .memory) i e → b .good (stateOf (headValue (c .memory))) ≡ true → OperationFormed b (kind f) (c .task i .operation) (c .task i .steps)
         → Between c (effect i e (c .memory)) i (enterBy b (c .memory) i f k) y
-    between idles z p safe u g r = clash refl p
-    between reads z p safe u g r = between-reads z g (r refl .0) (r refl .1)
-    between announces z p safe u g r = between-announces (c .task i .operation) z u
-    between (applies {h} {j} {o} e) z p safe u g r = rw (enters-applied b (c .memory) i h j o k e) (between-applies _ j _ z refl safe u)
-    between (continues {f′ = f′} {e = e} o s n) z p safe u g r = rw (n k) (between-continues e f′ z u o s)
-    between retracts z p safe u g r = record { state = rel .state; others = λ t d. page-aside b c k i rel Retracted u t d; page = page-by rel i z }
+    between-by idles z p safe u g r = clash refl p
+    between-by reads z p safe u g r = between-reads z g (r .0) (r .1)
+    between-by announces z p safe u g r = between-announces (c .task i .operation) z u
+    between-by (applies {h} {j} {o} e) z p safe u g r = rw (enters-applied b (c .memory) i h j o k e) (between-applies _ j _ z refl safe u)
+    between-by (continues {f′ = f′} {e = e} o s n) z p safe u g r = rw (n k) (between-continues e f′ z u o s)
+    between-by retracts z p safe u g r = record { state = rel .state; others = λ t d. page-aside b c k i rel Retracted u t d; page = page-by rel i z }
+
+    -- Every step of a task with an operation pending.
+    pub between : {n : ℕ} {e : Effect} {y : Next} → Safe c → Formed b n c → i < n → off (kind (c .task i .phase)) ≡ false → Steps b i c e y
+        → Between c (effect i e (c .memory)) i (enterBy b (c .memory) i (c .task i .phase) k) y
+    between {n} safe formed h p v =
+        between-by (progress b (c .memory) i (c .task i .priority) (c .task i .operation) v) refl p safe
+        (allowed b (c .memory) i (c .task i .priority) (c .task i .operation) (safe .holder) v (safe .each i))
+        (state-good b n (headValue (c .memory)) (formed .memory .head .value)) (formed .task i h .operation)

@@ -8,22 +8,19 @@ use native.Mathlib.Decide.{ℕ-discrete}
 use borrow.Author.Tests.{lt-ltb, le-ltb}
 use Rattle.machine.specs.Object.{Object}
 use Rattle.machine.specs.Memory.{HeadValue, Free, Held, Content, Empty, Op, Resp, Memory, either, update}
-use Rattle.machine.specs.Machine.{Phase, Idle, ReadOnly, Task, pick, Next, Go, Turn, End, advance}
+use Rattle.machine.specs.Machine.{Phase, Idle, Task, pick, Next, Go, Turn, End, advance}
 use Rattle.machine.specs.Kind.{Kind, Off, Reading, Opening, Looping, Exiting, Retracting, kind, off}
 use Rattle.machine.specs.Run.{Config, Call, Begin, Step, Running, Served, firstPhase, answerOf, serve}
 use Rattle.machine.specs.Run.{begun as began}
-use Rattle.machine.specs.Invariant.{headValue, Safe}
-use Rattle.machine.specs.Form.{OperationFormed, Formed}
+use Rattle.machine.specs.Invariant.{Safe}
+use Rattle.machine.specs.Form.{Formed}
 use Rattle.machine.specs.Book.{Book, Page, Waiting, Done, turned, Entering, none, Booking, begun, begin-task, begin-operation, begin-pending, running-waiting, running-done, ended, step-task, step-idle, Legal}
 use Rattle.machine.specs.Keeping.{enterBy, enterFor, counted, booked, keep}
 use Rattle.machine.proofs.Update.{clash, update-all, update-same, update-other}
-use Rattle.machine.proofs.Effect.{Effect, effect, Allowed}
+use Rattle.machine.proofs.Effect.{Effect, effect}
 use Rattle.machine.proofs.Moved.{moved, Steps}
 use Rattle.machine.proofs.Calls.{Serving, begins, moves, serving, begin-task as task-unknown, begin-operation as operation-unknown, begin-pending as still-pending, step-task as no-task, step-idle as no-operation}
-use Rattle.machine.proofs.Own.{allowed}
-use Rattle.machine.proofs.Formed.{state-good}
 use Rattle.machine.proofs.Related.{Standing, Out, Waits, Answered, byHead, standing, standsAt, Shows, Paged, Related, shows-same, page-by}
-use Rattle.machine.proofs.Progress.{Progress, progress}
 use Rattle.machine.proofs.Entered.{withCells}
 use Rattle.machine.proofs.Between.{Runs, Between, entries-legal, between}
 
@@ -143,24 +140,11 @@ module _ (b : Object) (n place : ℕ) (c : Config) (k : Book) (rel : Related c k
   enters-idle {i} h e = enters-below h ∙ ap (λ (f : Phase). enterBy b (c .memory) i f k) e
 
   module _ (safe : Safe c) (formed : Formed b n c) where
-    -- A reader's operation is one of the object's, and reading.
-    reader : {i : ℕ} → i < n → c .task i .phase ≡ ReadOnly → (c .task i .operation < b .operations) × (b .changing (c .task i .operation) ≡ false)
-    reader {i} h e =
-        let y : OperationFormed b Reading (c .task i .operation) (c .task i .steps) = rw e at (formed .task i h .operation) in
-        (y .0, y .1)
-
     books-moved : {i : ℕ} {e : Effect} {y : Next} → i < n → off (kind (c .task i .phase)) ≡ false → Steps b i c e y
         → Books b n place (Step i) c k (record { config = moved n i c e y; answer = answerOf (c .task i .steps) y })
-    books-moved {i} {e} {y} h p v = books-through (enters-below h) (entries-legal b c k i w) (z .booking) (z .related)
-      where
-        w : Progress b (c .memory) i (c .task i .operation) (c .task i .phase) e y
-        w = progress b (c .memory) i (c .task i .priority) (c .task i .operation) v
-
-        u : Allowed b (c .memory) i e
-        u = allowed b (c .memory) i (c .task i .priority) (c .task i .operation) (safe .holder) v (safe .each i)
-
-        z : BooksStep b n place c (effect i e (c .memory)) i (enterBy b (c .memory) i (c .task i .phase) k) y
-        z = books-step b n place c (effect i e (c .memory)) i _ h y p (between b c k i rel w refl p safe u (state-good b n (headValue (c .memory)) (formed .memory .head .value)) (reader h))
+    books-moved {i} {e} {y} h p v =
+        let z = books-step b n place c (effect i e (c .memory)) i _ h y p (between b c k i rel safe formed h p v) in
+        books-through (enters-below h) (entries-legal b c k i v) (z .booking) (z .related)
 
     books : {x : Call} {s : Served} → Serving b n c x s → Books b n place x c k s
     books (begins h l e) = books-begun h l e

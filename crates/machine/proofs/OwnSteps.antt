@@ -9,7 +9,7 @@ use native.Mathlib.Decide.{decLt}
 use Rattle.machine.specs.Object.{Object}
 use Rattle.machine.specs.Memory.{Content, Empty, Memory, stateOf, unmarked}
 use Rattle.machine.specs.Machine.{Phase, Access, ReadHead, WriteAnnouncement, plan, Task, Next, Go, Turn, End, phaseOf, ends, pick}
-use Rattle.machine.specs.Kind.{Kind, kind, off}
+use Rattle.machine.specs.Kind.{Kind, Off, Reading, Opening, Looping, Exiting, Retracting, kind, off}
 use Rattle.machine.specs.Run.{Config, Call, Step, Answer, Begun, Running, Ended, Refused, Served, start, answerOf, serve, run, history}
 use Rattle.machine.specs.Book.{Book}
 use Rattle.machine.specs.History.{Nothing, Pends, pending}
@@ -20,7 +20,7 @@ use Rattle.machine.proofs.Effect.{Effect, effect}
 use Rattle.machine.proofs.Moved.{Steps}
 use Rattle.machine.proofs.Calls.{Serving, moves, step-task, step-idle, serving}
 use Rattle.machine.proofs.Own.{own-safe}
-use Rattle.machine.proofs.Progress.{Onward, loops, leaves, exits, is-out, Progress, idles, reads, announces, applies, continues, retracts, progress}
+use Rattle.machine.proofs.Progress.{announced, Progress, idles, reads, announces, applies, continues, retracts, progress}
 use Rattle.machine.proofs.Pending.{pendingOf, pending-is}
 use Rattle.machine.proofs.Keeps.{Sound, bookOf, sound}
 
@@ -28,17 +28,22 @@ use Rattle.machine.proofs.Keeps.{Sound, bookOf, sound}
 abbrev pub accessOf : Object → ℕ → Config → Access
 accessOf b t c = plan b t (c .task t .priority) (c .task t .operation) (c .task t .phase)
 
-onward-changing : (b : Object) {a : Content} {d d′ : Kind} (o s : ℕ) → Onward a d d′ → OperationFormed b d o s → b .changing o ≡ true
-onward-changing b o s loops y = y .1
-onward-changing b o s (leaves e) y = y .1
-onward-changing b o s exits y = y .1
-onward-changing b o s is-out y = y .1
+-- An announced operation is changing, and its announcement is not empty.
+announced-changing : (b : Object) (d : Kind) (o s : ℕ) → announced d ≡ true → OperationFormed b d o s → b .changing o ≡ true
+announced-changing b Off o s e y = clash e refl
+announced-changing b Reading o s e y = clash e refl
+announced-changing b Opening o s e y = y .1
+announced-changing b Looping o s e y = y .1
+announced-changing b (Exiting v) o s e y = y .1
+announced-changing b (Retracting v) o s e y = y .1
 
-onward-announced : {a a′ : Content} {d d′ : Kind} (o : ℕ) → Onward a d d′ → OwnContent a′ o d′ → a′ ≡ Empty → ⊥
-onward-announced o loops w g = rw g at w
-onward-announced o (leaves e) w g = let z : _≡_ {A = ℕ} 0 1 = cc in omega arith
-onward-announced o exits w g = let z : _≡_ {A = ℕ} 0 1 = cc in omega arith
-onward-announced o is-out w g = let z : _≡_ {A = ℕ} 0 1 = cc in omega arith
+announced-content : (d : Kind) (a : Content) (o : ℕ) → announced d ≡ true → OwnContent a o d → a ≡ Empty → ⊥
+announced-content Off a o e y g = clash e refl
+announced-content Reading a o e y g = clash e refl
+announced-content Opening a o e y g = clash e refl
+announced-content Looping a o e y g = rw g at y
+announced-content (Exiting v) a o e y g = let z : _≡_ {A = ℕ} 0 1 = cc in omega arith
+announced-content (Retracting v) a o e y g = let z : _≡_ {A = ℕ} 0 1 = cc in omega arith
 
 module _ (b : Object) (m : Memory) (i p x s : ℕ) where
   -- A reading operation ends in its first step, which reads the head.
@@ -49,7 +54,7 @@ module _ (b : Object) (m : Memory) (i p x s : ℕ) where
   reading-step reads d w r = (refl, refl, w .2)
   reading-step announces d w r = clash (w .1) r
   reading-step (applies e) d w r = clash (w .1) r
-  reading-step (continues o _ _) d w r = clash (onward-changing b x s o w) r
+  reading-step (continues {f = f} o _ _) d w r = clash (announced-changing b (kind f) x s (o .0) w) r
   reading-step retracts d w r = clash (w .1) r
 
   -- A changing operation ends only in the step that empties its announcement.
@@ -69,7 +74,7 @@ module _ (b : Object) (m : Memory) (i p x s : ℕ) where
   running-step reads d z w g = clash refl z
   running-step announces d z w g = rw g at w
   running-step (applies e) d z w g = rw g at w
-  running-step (continues o _ _) d z w g = onward-announced x o w g
+  running-step (continues {f′ = f′} o _ _) d z w g = announced-content (kind f′) _ x (o .1) w g
   running-step retracts d z w g = clash refl z
 
 -- ---- Answers
