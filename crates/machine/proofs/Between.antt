@@ -18,7 +18,7 @@ use Rattle.machine.proofs.Moved.{Steps}
 use Rattle.machine.proofs.Own.{allowed}
 use Rattle.machine.proofs.Formed.{state-good}
 use Rattle.machine.proofs.Related.{Waits, byContent, standsAt, Paged, Related, shows-same, page-by, Aside, stands-aside, not-held}
-use Rattle.machine.proofs.Progress.{Onward, Progress, idles, reads, announces, applies, continues, retracts, progress, enters-applied}
+use Rattle.machine.proofs.Progress.{Onward, Progress, idles, reads, announces, applies, continues, retracts, progress, enters-reader, enters-applied}
 use Rattle.machine.proofs.Entered.{withCells, every-task, enter-legal, enter-other, EnteredAs, enters-as, page-aside, related-applied}
 
 -- The step of task i goes on to the phase f: over the new cells m every page is right by the old records, and the task
@@ -55,7 +55,7 @@ module _ (b : Object) (c : Config) (k : Book) (i : ℕ) where
   -- Before a step only waiting tasks are entered.
   entries-by : {f : Phase} {e : Effect} {y : Next} → Progress b (c .memory) i (c .task i .operation) f e y → Entering b k (enterBy b (c .memory) i f k)
   entries-by idles = none
-  entries-by reads = enter-legal b i k
+  entries-by reads = rw (enters-reader b (c .memory) i k) (enter-legal b i k)
   entries-by announces = none
   entries-by (applies {h} {j} {o} e) = rw (enters-applied b (c .memory) i h j o k e) (enter-legal b j k)
   entries-by (continues _ _ n) = rw (n k) none
@@ -117,7 +117,7 @@ module _ (b : Object) (c : Config) (k : Book) (i : ℕ) where
         → Safe c → Allowed b (c .memory) i e → b .good (stateOf (headValue (c .memory))) ≡ true → OperationFormed b (kind f) (c .task i .operation) (c .task i .steps)
         → Between c (effect i e (c .memory)) i (enterBy b (c .memory) i f k) y
     between-by idles z p safe u g r = clash refl p
-    between-by reads z p safe u g r = between-reads z g (r .0) (r .1)
+    between-by reads z p safe u g r = rw (enters-reader b (c .memory) i k) (between-reads z g (r .0) (r .1))
     between-by announces z p safe u g r = between-announces (c .task i .operation) z u
     between-by (applies {h} {j} {o} e) z p safe u g r = rw (enters-applied b (c .memory) i h j o k e) (between-applies _ j _ z refl safe u)
     between-by (continues {f′ = f′} {e = e} o s n) z p safe u g r = rw (n k) (between-continues e f′ z u o s)

@@ -69,7 +69,10 @@ pick-no (yes p) x y n = absurd (n p)
 pick-no (no _) x y n = refl
 
 module _ (b : Object) (m : Memory) (i : ℕ) where
-  -- Before a swap that applies an operation, its task is entered; before one that fails, nobody.
+  -- A reader is entered before its only step; before a swap that applies an operation, its task; before one that fails, nobody.
+  pub enters-reader : (k : Book) → enterBy b m i ReadOnly k ≡ enter b i k
+  enters-reader k = refl
+
   pub enters-applied : (h : Cell HeadValue) (j o : ℕ) (k : Book) → m .head ≡ h → enterBy b m i (Apply h j o) k ≡ enter b j k
   enters-applied h j o k e = pick-yes (head-dec (m .head) h) _ _ e
 
