@@ -39,7 +39,7 @@ module _ {A : Type 0} {n : ℕ} (ValueFormed : A → Type 0) where
   found-formed e y = rw e at (y .value)
 
 module _ (b : Object) (n : ℕ) where
-  state-good : (v : HeadValue) → HeadValueFormed b n v → b .good (stateOf v) ≡ true
+  pub state-good : (v : HeadValue) → HeadValueFormed b n v → b .good (stateOf v) ≡ true
   state-good (Free q) y = y
   state-good (Held q j r) y = y .0
 

@@ -14,3 +14,14 @@ pub mod Own
 pub mod Stable
 pub mod Safety
 pub mod Formed
+pub mod Related
+pub mod Progress
+pub mod Entered
+pub mod Between
+pub mod Booked
+pub mod Keeps
+pub mod Pending
+pub mod Quiet
+pub mod Rest
+pub mod MidWork
+pub mod OwnSteps

@@ -1,0 +1,42 @@
+-- At every point of a run, at work too: what the cells show of the tasks and of the state.
+use mathlib.Core.Path.{_≡_, sym, _∙_}
+use mathlib.Core.Bool.{true}
+use mathlib.Core.List.{List}
+use Prim.Native.Nat.{ℕ}
+use Rattle.machine.specs.Object.{Object}
+use Rattle.machine.specs.Memory.{Held, Empty, Memory, stateOf}
+use Rattle.machine.specs.Run.{Event, Call, start, run, history}
+use Rattle.machine.specs.Book.{Book}
+use Rattle.machine.specs.History.{Pends, Reads, pending}
+use Rattle.machine.specs.Invariant.{inHead, inAnnouncement, headValue, content}
+use Rattle.machine.proofs.Replay.{reached}
+use Rattle.machine.proofs.Pending.{pending-is}
+use Rattle.machine.proofs.Quiet.{Quiet, quiet, holder-works}
+use Rattle.machine.proofs.Keeps.{Sound, bookOf, sound, state-reached}
+
+-- Over the cells m, with the history es so far and the book k, from the start in state q.
+pub record MidWork (b : Object) (q : ℕ) (m : Memory) (es : List Event) (k : Book) : Type 0 where
+  -- The announcement of a task with no changing operation pending is empty.
+  pub empty : (t : ℕ) → Reads b (pending es t) → content m t ≡ Empty
+  -- No cell has a mark of such a task.
+  pub head-mark : (t : ℕ) → Reads b (pending es t) → inHead m t ≡ true → ⊥
+  pub announcement-mark : (t j : ℕ) → Reads b (pending es t) → inAnnouncement m t j ≡ true → ⊥
+  -- The head's holder has a changing operation pending.
+  pub holder : (p j r : ℕ) → headValue m ≡ Held p j r → (o : ℕ) × (s : ℕ) × (pending es j ≡ Pends o s) × (b .changing o ≡ true)
+  -- The head's state is the one that the operations entered so far have led to.
+  pub state : stateOf (headValue m) ≡ reached b q (k .order)
+
+pub mid-work : (b : Object) (n q : ℕ) → b .good q ≡ true → (xs : List Call) → MidWork b q (run b n xs (start q) .memory) (history b n xs (start q)) (bookOf b n q xs)
+mid-work b n q good xs = record {
+  empty = λ t r. trace t r .empty;
+  head-mark = λ t r. trace t r .head;
+  announcement-mark = λ t j r. trace t r .marks j;
+  holder = λ p j r e. let (f, g) = holder-works b n _ (s .safe) (s .formed) p j r e in (_, _, pending-is b n xs q j ∙ f, g);
+  state = sym (s .related .state) ∙ state-reached b n q good xs;
+}
+  where
+    s : Sound b n (run b n xs (start q)) (bookOf b n q xs)
+    s = sound b n q good xs
+
+    trace : (t : ℕ) → Reads b (pending (history b n xs (start q)) t) → Quiet (run b n xs (start q) .memory) t
+    trace t r = quiet b n _ (s .safe) (s .formed) t (rw (pending-is b n xs q t) at r)
