@@ -25,3 +25,4 @@ pub mod Quiet
 pub mod Rest
 pub mod MidWork
 pub mod OwnSteps
+pub mod Demands

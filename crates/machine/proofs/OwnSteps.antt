@@ -10,9 +10,10 @@ use Rattle.machine.specs.Object.{Object}
 use Rattle.machine.specs.Memory.{Content, Empty, Memory, stateOf, unmarked}
 use Rattle.machine.specs.Machine.{Phase, Access, ReadHead, WriteAnnouncement, plan, Task, Next, Go, Turn, End, phaseOf, ends, pick}
 use Rattle.machine.specs.Kind.{Kind, Off, Reading, Opening, Looping, Exiting, Retracting, kind, off}
-use Rattle.machine.specs.Run.{Config, Call, Step, Answer, Begun, Running, Ended, Refused, Served, start, answerOf, serve, run, history}
+use Rattle.machine.specs.Run.{Config, Call, Step, Answer, Running, Ended, Served, start, answerOf, serve, run, history}
 use Rattle.machine.specs.Book.{Book}
 use Rattle.machine.specs.History.{Nothing, Pends, pending}
+use Rattle.machine.specs.Demand.{Accepted}
 use Rattle.machine.specs.Invariant.{headValue, content, OwnContent}
 use Rattle.machine.specs.Form.{OperationFormed, Formed}
 use Rattle.machine.proofs.Update.{clash}
@@ -78,13 +79,6 @@ module _ (b : Object) (m : Memory) (i p x s : ℕ) where
   running-step retracts d z w g = clash refl z
 
 -- ---- Answers
-
--- The answer is no refusal.
-abbrev pub Accepted : Answer → Type 0
-Accepted Begun = ⊥
-Accepted Running = Unit {0}
-Accepted (Ended r k) = Unit {0}
-Accepted (Refused r) = ⊥
 
 answer-accepted : (k : ℕ) (y : Next) → Accepted (answerOf k y)
 answer-accepted k (Go f) = tt

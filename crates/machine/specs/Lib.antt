@@ -7,6 +7,7 @@ pub mod Run
 pub mod Book
 pub mod History
 pub mod Keeping
+pub mod Demand
 pub mod Invariant
 pub mod Form
 pub mod Potential
