@@ -1,20 +1,21 @@
 -- The abstract machine meets the demand, for every number of tasks and every good start state.
-use mathlib.Core.Path.{_≡_, refl, sym, _∙_, ap, subst}
+use mathlib.Core.Path.{_≡_, refl}
 use mathlib.Core.Bool.{true}
 use mathlib.Core.List.{List, [], _∷_, _++_}
-use Prim.Native.Nat.{ℕ, suc, _+_, _<_}
+use Prim.Native.Nat.{ℕ, _<_}
 use native.Mathlib.Nat.{zero-add}
 use lib.ListN.{length}
 use Rattle.machine.specs.Object.{Object}
 use Rattle.machine.specs.Memory.{Memory, image}
-use Rattle.machine.specs.Run.{Call, Step, Event, start, serve, run, history}
-use Rattle.machine.specs.Book.{Book, Legal}
+use Rattle.machine.specs.Run.{Call, start, serve, run, history}
+use Rattle.machine.specs.Book.{Legal}
 use Rattle.machine.specs.History.{Pends, pending}
 use Rattle.machine.specs.Demand.{Shown, Demand}
 use Rattle.machine.proofs.Booked.{legal-serve}
-use Rattle.machine.proofs.Keeps.{bookOf, book-grows, sound, run-linearizable, order-stands}
+use Rattle.machine.proofs.Keeps.{book-grows, sound, run-linearizable, order-stands}
 use Rattle.machine.proofs.Rest.{rest-image}
 use Rattle.machine.proofs.OwnSteps.{next-step}
+use Rattle.machine.specs.Keeping.{bookOf}
 
 -- What a run of the machine shows.
 abbrev pub machineShows : Object → (n q : ℕ) → Shown Memory

@@ -10,13 +10,12 @@ use Rattle.machine.specs.Object.{Object}
 use Rattle.machine.specs.Run.{Config, Call, Event, start, serve, run, history}
 use Rattle.machine.specs.Invariant.{Safe}
 use Rattle.machine.specs.Form.{Formed}
-use Rattle.machine.specs.Book.{Book, blank, Kept, rest, then}
-use Rattle.machine.specs.History.{Linearizes}
-use Rattle.machine.specs.Keeping.{keep, bookAfter}
+use Rattle.machine.specs.Book.{Book, blank, Kept, rest, then, Extends}
+use Rattle.machine.specs.History.{Linearizes, reached}
+use Rattle.machine.specs.Keeping.{keep, bookAfter, bookOf}
 use Rattle.machine.proofs.Safety.{safe-start, safe-serve}
 use Rattle.machine.proofs.Formed.{formed-start, formed-serve}
-use Rattle.machine.proofs.Replay.{reached}
-use Rattle.machine.proofs.Kept.{Extends, order-grows}
+use Rattle.machine.proofs.Kept.{order-grows}
 use Rattle.machine.proofs.Linearization.{kept-agrees, linearizable}
 use Rattle.machine.proofs.Related.{Related, related-start}
 use Rattle.machine.proofs.Booked.{legal-serve, related-serve}
@@ -62,10 +61,6 @@ module _ (b : Object) (n : ℕ) where
     where
       shift : suc place + length xs ≡ place + suc (length xs)
       shift = omega arith
-
--- The book after a list of calls from the start in state q.
-abbrev pub bookOf : Object → (n q : ℕ) → List Call → Book
-bookOf b n q xs = bookAfter b n 0 xs (start q) (blank q)
 
 module _ (b : Object) (n q : ℕ) (good : b .good q ≡ true) where
   pub sound : (xs : List Call) → Sound b n (run b n xs (start q)) (bookOf b n q xs)

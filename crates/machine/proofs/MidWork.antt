@@ -4,27 +4,13 @@ use mathlib.Core.Bool.{true}
 use mathlib.Core.List.{List}
 use Prim.Native.Nat.{ℕ}
 use Rattle.machine.specs.Object.{Object}
-use Rattle.machine.specs.Memory.{Held, Empty, Memory, stateOf}
-use Rattle.machine.specs.Run.{Event, Call, start, run, history}
-use Rattle.machine.specs.Book.{Book}
-use Rattle.machine.specs.History.{Pends, Reads, pending}
-use Rattle.machine.specs.Invariant.{inHead, inAnnouncement, headValue, content}
-use Rattle.machine.proofs.Replay.{reached}
+use Rattle.machine.specs.Run.{Call, start, run, history}
+use Rattle.machine.specs.History.{Reads, pending}
 use Rattle.machine.proofs.Pending.{pending-is}
 use Rattle.machine.proofs.Quiet.{Quiet, quiet, holder-works}
-use Rattle.machine.proofs.Keeps.{Sound, bookOf, sound, state-reached}
-
--- Over the cells m, with the history es so far and the book k, from the start in state q.
-pub record MidWork (b : Object) (q : ℕ) (m : Memory) (es : List Event) (k : Book) : Type 0 where
-  -- The announcement of a task with no changing operation pending is empty.
-  pub empty : (t : ℕ) → Reads b (pending es t) → content m t ≡ Empty
-  -- No cell has a mark of such a task.
-  pub head-mark : (t : ℕ) → Reads b (pending es t) → inHead m t ≡ true → ⊥
-  pub announcement-mark : (t j : ℕ) → Reads b (pending es t) → inAnnouncement m t j ≡ true → ⊥
-  -- The head's holder has a changing operation pending.
-  pub holder : (p j r : ℕ) → headValue m ≡ Held p j r → (o : ℕ) × (s : ℕ) × (pending es j ≡ Pends o s) × (b .changing o ≡ true)
-  -- The head's state is the one that the operations entered so far have led to.
-  pub state : stateOf (headValue m) ≡ reached b q (k .order)
+use Rattle.machine.proofs.Keeps.{Sound, sound, state-reached}
+use Rattle.machine.specs.Keeping.{bookOf}
+use Rattle.machine.specs.Points.{MidWork}
 
 pub mid-work : (b : Object) (n q : ℕ) → b .good q ≡ true → (xs : List Call) → MidWork b q (run b n xs (start q) .memory) (history b n xs (start q)) (bookOf b n q xs)
 mid-work b n q good xs = record {

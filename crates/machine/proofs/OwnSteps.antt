@@ -8,9 +8,9 @@ use native.Mathlib.Omega.{arith}
 use native.Mathlib.Decide.{decLt}
 use Rattle.machine.specs.Object.{Object}
 use Rattle.machine.specs.Memory.{Content, Empty, Memory, stateOf, unmarked}
-use Rattle.machine.specs.Machine.{Phase, Access, ReadHead, WriteAnnouncement, plan, Task, Next, Go, Turn, End, phaseOf, ends, pick}
+use Rattle.machine.specs.Machine.{Phase, ReadHead, WriteAnnouncement, plan, Task, Next, Go, Turn, End, phaseOf, ends, pick}
 use Rattle.machine.specs.Kind.{Kind, Off, Reading, Opening, Looping, Exiting, Retracting, kind, off}
-use Rattle.machine.specs.Run.{Config, Call, Step, Answer, Running, Ended, Served, start, answerOf, serve, run, history}
+use Rattle.machine.specs.Run.{Config, Call, Step, Running, Ended, Served, start, answerOf, serve, run, history}
 use Rattle.machine.specs.Book.{Book}
 use Rattle.machine.specs.History.{Nothing, Pends, pending}
 use Rattle.machine.specs.Demand.{Accepted}
@@ -23,11 +23,9 @@ use Rattle.machine.proofs.Calls.{Serving, moves, step-task, step-idle, 
 use Rattle.machine.proofs.Own.{own-safe}
 use Rattle.machine.proofs.Progress.{announced, Progress, idles, reads, announces, applies, continues, retracts, progress}
 use Rattle.machine.proofs.Pending.{pendingOf, pending-is}
-use Rattle.machine.proofs.Keeps.{Sound, bookOf, sound}
-
--- The access of the next step of task t.
-abbrev pub accessOf : Object → ℕ → Config → Access
-accessOf b t c = plan b t (c .task t .priority) (c .task t .operation) (c .task t .phase)
+use Rattle.machine.proofs.Keeps.{Sound, sound}
+use Rattle.machine.specs.Keeping.{bookOf}
+use Rattle.machine.specs.Points.{NextStep, accessOf}
 
 -- An announced operation is changing, and its announcement is not empty.
 announced-changing : (b : Object) (d : Kind) (o s : ℕ) → announced d ≡ true → OperationFormed b d o s → b .changing o ≡ true
@@ -96,18 +94,6 @@ answer-runs k (Turn f) e = refl
 answer-runs k (End v) e = cc
 
 -- ---- The next step of task t, at every point
-
--- The operation o of task t is pending after s own steps; its next step makes the access, answers, and leaves the cells m.
--- The book's state before it is q.
-pub record NextStep (b : Object) (t o s q : ℕ) (access : Access) (answer : Answer) (m : Memory) : Type 0 where
-  pub accepted : Accepted answer
-  -- The count answered is the number of accepted steps since begin, this one counted.
-  pub count : (r k : ℕ) → answer ≡ Ended r k → k ≡ suc s
-  -- A reading operation ends in its first step, a read of the head.
-  pub reading : b .changing o ≡ false → (access ≡ ReadHead) × (answer ≡ Ended (b .outcome q o) 1)
-  -- A changing operation ends in the step that empties its announcement; one that goes on leaves it announced.
-  pub ending : b .changing o ≡ true → (r k : ℕ) → answer ≡ Ended r k → access ≡ WriteAnnouncement t (unmarked Empty)
-  pub running : answer ≡ Running → content m t ≡ Empty → ⊥
 
 -- A step of task t that is accepted.
 record OwnStep (b : Object) (c : Config) (t : ℕ) (s : Served) : Type 0 where

@@ -12,7 +12,8 @@ use Rattle.machine.specs.History.{Reads, Rest}
 use Rattle.machine.specs.Invariant.{headValue, HolderAnnounces}
 use Rattle.machine.proofs.Pending.{pendingOf, pending-is}
 use Rattle.machine.proofs.Quiet.{Quiet, quiet}
-use Rattle.machine.proofs.Keeps.{Sound, bookOf, sound}
+use Rattle.machine.proofs.Keeps.{Sound, sound}
+use Rattle.machine.specs.Keeping.{bookOf}
 
 -- Cells in which no task leaves a trace are an image.
 all-quiet : (m : Memory) → ((t : ℕ) → Quiet m t) → ((t : ℕ) → HolderAnnounces m t) → m ≡ image (stateOf (headValue m))

@@ -2,7 +2,7 @@
 -- the calls on words and records in the crate above.
 use mathlib.Core.Path.{_≡_}
 use mathlib.Core.List.{List, [], _∷_, _++_}
-use Prim.Native.Nat.{ℕ, suc, _≤_, _<_}
+use Prim.Native.Nat.{ℕ, suc, _<_}
 use lib.ListN.{length}
 use Rattle.machine.specs.Object.{Object}
 use Rattle.machine.specs.Run.{Call, Step, Answer, Begun, Running, Ended, Refused, Event}

@@ -9,5 +9,6 @@ pub mod History
 pub mod Keeping
 pub mod Demand
 pub mod Invariant
+pub mod Points
 pub mod Form
 pub mod Potential
