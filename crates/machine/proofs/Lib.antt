@@ -3,3 +3,7 @@ pub mod Effect
 pub mod Branch
 pub mod Branches
 pub mod Moved
+pub mod Sums
+pub mod Readings
+pub mod Class
+pub mod Ordinary

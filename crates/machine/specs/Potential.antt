@@ -221,15 +221,16 @@ counts (Approaching j) = false
 counts (Marking j) = true
 counts (Finishing j) = true
 
--- 2 while task t waits or holds the head, unless the task is one that works for this holder with its mark in the head.
-abbrev pub owed : (holder waits marked works : Bool) → ℕ
-owed holder waits marked works = pick ((waits || holder) && not (works && (holder && marked))) 2 0
+-- What is owed to task t: 2 while it waits or holds the head.
+abbrev pub owed : Memory → ℕ → ℕ
+owed m t = pick (waiting (content m t) || holds t (headValue m)) 2 0
 
--- How often task x can still change the announcement of t while a mark of p stands there.
+-- How often task x can still change the announcement of t while a mark of p stands there. One that works for the holder
+-- with its mark in the head owes nothing more.
 abbrev pub owes : Memory → (x t : ℕ) → Work → ℕ
 owes m x t w =
     pick (approaches t w) 2 (one (inAnnouncement m x t))
-    + owed (holds t (headValue m)) (waiting (content m t)) (inHead m x) (worksFor t w)
+    + pick (worksFor t w && (holds t (headValue m) && inHead m x)) 0 (owed m t)
 
 -- The part of the head: due while the own mark stands in it or the task holds it.
 abbrev pub atHead : Memory → ℕ → Bool
