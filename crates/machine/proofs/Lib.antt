@@ -7,3 +7,7 @@ pub mod Sums
 pub mod Readings
 pub mod Class
 pub mod Ordinary
+pub mod Rows
+pub mod Distance
+pub mod Debts
+pub mod Seen

@@ -20,6 +20,10 @@ pub pick-mono : (x : Bool) (a b : ℕ) → a ≤ b → pick x a 0 ≤ pick x b 0
 pick-mono true a b h = h
 pick-mono false a b h = omega arith
 
+pub not-true : (x : Bool) → (x ≡ true → ⊥) → x ≡ false
+not-true true n = absurd (n refl)
+not-true false n = refl
+
 -- A decision that is known either way.
 pub decided-yes : {P : Type 0} (d : Dec P) → P → decided d ≡ true
 decided-yes (yes e) x = refl
