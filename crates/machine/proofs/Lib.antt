@@ -3,6 +3,12 @@ pub mod Effect
 pub mod Branch
 pub mod Branches
 pub mod Moved
+pub mod Calls
+pub mod Rely
+pub mod Own
+pub mod Stable
+pub mod Safety
+pub mod Formed
 pub mod Sums
 pub mod Readings
 pub mod Class
