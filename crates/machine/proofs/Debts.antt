@@ -13,6 +13,7 @@ use Rattle.machine.specs.Invariant.{inHead, inAnnouncement, headValue, c
 use Rattle.machine.specs.Potential.{Work, Elsewhere, Approaching, Marking, Finishing, one, waiting, holds, approaches, worksFor, owed, owes}
 use Rattle.machine.proofs.Update.{update-same, update-other}
 use Rattle.machine.proofs.Effect.{Effect, Cleared, Applied, LinkedAt, ReleasedAt, effect, withAnnouncement, Allowed}
+use Rattle.machine.proofs.Own.{value-found}
 use Rattle.machine.proofs.Readings.{one-le, pick-le, waiting-not, resp-not-op}
 use Rattle.machine.proofs.Class.{class}
 use Rattle.machine.proofs.Ordinary.{Ordinary, Sort, ordinary, clears, applies, hands-over, Fate, rewritten, kept, remarked}
@@ -70,7 +71,7 @@ written-owes m j a x t w = go (ℕ-discrete j t)
     go (yes e) = omega (arith, owes-most (withAnnouncement m j a) x t w)
     go (no d) =
         let same = update-other (m .announcement) j a t d in
-        let c : content (withAnnouncement m j a) t ≡ content m t = ap (λ (s : Cell Content). s .value) same in
+        let c : content (withAnnouncement m j a) t ≡ content m t = value-found same in
         let h : inAnnouncement (withAnnouncement m j a) x t ≡ inAnnouncement m x t = ap (λ (s : Cell Content). has x (s .marks)) same in
         rw (c, h) (omega arith)
 

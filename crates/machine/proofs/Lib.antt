@@ -17,3 +17,4 @@ pub mod Rows
 pub mod Distance
 pub mod Debts
 pub mod Seen
+pub mod Course

@@ -13,6 +13,7 @@ use Rattle.machine.specs.Invariant.{inHead, inAnnouncement, headValue, c
 use Rattle.machine.specs.Potential.{Compared, AnnouncementWord, one, stale}
 use Rattle.machine.proofs.Update.{update-all, update-same, update-other}
 use Rattle.machine.proofs.Effect.{Effect, Unchanged, Linked, Released, Cleared, Retracted, Applied, LinkedAt, ReleasedAt, HandedOver, Announced, effect, withHead, withAnnouncement, Allowed}
+use Rattle.machine.proofs.Own.{value-found}
 use Rattle.machine.proofs.Readings.{one-le}
 use Rattle.machine.proofs.Class.{Class, class}
 
@@ -92,7 +93,7 @@ module _ (m : Memory) (i : ℕ) where
   remarked j k x = update-all (m .announcement) j _ (λ t (a : Cell Content). a .value ≡ content m t) refl (λ t _. refl) x
 
   pub elsewhere : (j x : ℕ) (a : Cell Content) → j ≢ x → content (withAnnouncement m j a) x ≡ content m x
-  elsewhere j x a d = ap (λ (s : Cell Content). s .value) (update-other (m .announcement) j a x d)
+  elsewhere j x a d = value-found (update-other (m .announcement) j a x d)
 
   own-ordinary : (a : Content) (e : Effect) → class e .stage ≡ 0 → class e .cost (inHead m i) ≡ 1 → NotHolder (headValue m) i → Ordinary m (withAnnouncement m i (unmarked a)) i (class e)
   own-ordinary a e s k h = announcement-ordinary i _ e s k (λ x d. elsewhere i x _ (λ z. d (sym z))) (λ q t r z. elsewhere i t _ (λ y. h q r (rw y z)))
@@ -146,7 +147,7 @@ module _ (m : Memory) (i t : ℕ) where
         go (yes z) w = rewritten (λ x. rw (← z) (ap (λ (s : Cell Content). has x (s .marks)) (update-same (m .announcement) j (unmarked a)) ∙ has-none x))
         go (no d) w =
             let same : withAnnouncement m j (unmarked a) .announcement t ≡ m .announcement t = update-other (m .announcement) j (unmarked a) t d in
-            kept w (ap (λ (s : Cell Content). s .value) same) (λ x _. ap (λ (s : Cell Content). has x (s .marks)) same) (λ a. rw same (omega arith))
+            kept w (value-found same) (λ x _. ap (λ (s : Cell Content). has x (s .marks)) same) (λ a. rw same (omega arith))
 
   pub fate : (e : Effect) → Fate m (effect i e m) i t (class e)
   fate Unchanged = untouched (m .head) (class Unchanged) refl

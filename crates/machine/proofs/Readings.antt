@@ -33,6 +33,15 @@ pub decided-no : {P : Type 0} (d : Dec P) → (P → ⊥) → decided d ≡ fals
 decided-no (yes e) n = absurd (n e)
 decided-no (no _) n = refl
 
+-- A compared word that is in its cell, and one that is not.
+pub found-word : {P : Type 0} (d : Dec P) → P → one (not (decided d)) ≡ 0
+found-word (yes e) x = refl
+found-word (no n) x = absurd (n x)
+
+pub lost-word : {P : Type 0} (d : Dec P) → (P → ⊥) → one (not (decided d)) ≡ 1
+lost-word (yes e) n = absurd (n e)
+lost-word (no _) n = refl
+
 pub answered-not : (a : Content) → (IsResp a → ⊥) → answered a ≡ false
 answered-not Empty n = refl
 answered-not (Op o) n = refl

@@ -9,11 +9,12 @@ use Rattle.machine.specs.Marks.{has, add, remove, has-add, has-remove}
 use Rattle.machine.specs.Object.{Object}
 use Rattle.machine.specs.Memory.{HeadValue, Free, Held, Content, Empty, Op, Resp, Cell, Memory, unmarked, outcomeOf}
 use Rattle.machine.specs.Machine.{Phase, Idle, Poll, ClearHead, Next, phaseOf, turns, decided, pick, linked, released}
-use Rattle.machine.specs.Invariant.{inHead, inAnnouncement, headValue, content, Announces, TaskSafe}
+use Rattle.machine.specs.Invariant.{inHead, inAnnouncement, headValue, content, TaskSafe}
 use Rattle.machine.specs.Potential.{Row, row, Work, Elsewhere, Applying, Marking, Finishing, one, answered, waiting, holds, worksFor, dist, skips, owed, owes}
 use Rattle.machine.proofs.Update.{update-same, update-other}
 use Rattle.machine.proofs.Effect.{Effect, Unchanged, Linked, LinkedAt, ReleasedAt, Announced, effect, withAnnouncement, Allowed}
 use Rattle.machine.proofs.Branch.{Branch, stay-idle, read-only, announce, poll-response, poll-waits, load-head, link-free, link-held, link-fails, priority-waits, priority-rests, own-waits, own-response, own-empty, apply, apply-fails, reload-apply, reload-apply-lost, load-helped, link-helped, link-rested, link-helped-fails, validate, validate-fails, hand-over, hand-over-fails, reload-hand-over, reload-hand-over-lost, release, release-fails, reload-release, reload-release-lost, clear, clear-fails, reload-clear, reload-clear-lost, exit-clear, exit-release, exit-link, exit-retract, link-exit, link-exit-fails, clear-exit, clear-exit-fails, release-exit, release-exit-fails, retract}
+use Rattle.machine.proofs.Own.{value-found, mark-found, not-empty}
 use Rattle.machine.proofs.Readings.{answered-not, not-true}
 use Rattle.machine.proofs.Class.{class}
 use Rattle.machine.proofs.Ordinary.{remarked}
@@ -36,11 +37,8 @@ module _ (b : Object) (m : Memory) (i k o n p t : ℕ) (ex : Extra (inHead m i) 
   abbrev kept-debt : ℕ → ℕ
   kept-debt j = pick (decided (ℕ-discrete j t) && (holds t (headValue m) && inHead m i)) 0 (owed m t)
 
-  unannounced : content m i ≡ Empty → Announces (content m i) o → ⊥
-  unannounced e y = let z : Announces Empty o = rw e at y in z
-
   announced : content (effect i (Announced o) m) i ≡ Op o
-  announced = ap (λ (s : Cell Content). s .value) (update-same (m .announcement) i (unmarked (Op o)))
+  announced = value-found (update-same (m .announcement) i (unmarked (Op o)))
 
   -- What the task owes to t before and after it marks, or unmarks, the announcement of j.
   abbrev mark-after : Effect → Bool
@@ -69,13 +67,13 @@ module _ (b : Object) (m : Memory) (i k o n p t : ℕ) (ex : Extra (inHead m i) 
   seen (poll-waits e) s a = rw (answered-not (content m i) e) (omega arith)
   seen load-head s a = omega arith
   seen (link-free e f) s a = rw (has-add i (m .head .marks)) (omega arith)
-  seen (link-held {j = j} e f) s a = rw (has-add i (m .head .marks), ap (λ (h : Cell HeadValue). h .value) e ∙ f) (omega (arith, link-owes (ℕ-discrete j t) (inAnnouncement m i t) (waiting (content m t))))
+  seen (link-held {j = j} e f) s a = rw (has-add i (m .head .marks), value-found e ∙ f) (omega (arith, link-owes (ℕ-discrete j t) (inAnnouncement m i t) (waiting (content m t))))
   seen (link-fails e) s a = omega arith
   seen (priority-waits e) s a = omega (arith, takes-priority n p k)
   seen (priority-rests e) s a = omega (arith, passes n p k m e)
   seen (own-waits e) s a = omega (arith, turns-to-own n p k (not (decided (ℕ-discrete i p))))
   seen (own-response e) s a = omega (arith, leaves n p k true)
-  seen (own-empty e) s a = absurd (unannounced e (s .own))
+  seen (own-empty e) s a = absurd (not-empty o (s .own) e)
   seen (apply {j = j} e) s a = omega (arith, row-bounds Poll (has i 0) (answered (content m i)) .rank, leaves n p k (not (decided (ℕ-discrete j p))), applied-owes b m i i t (Applying j) Elsewhere refl _ j _ a)
   seen (apply-fails e) s a = omega arith
   seen (reload-apply e) s a = omega arith
@@ -90,7 +88,7 @@ module _ (b : Object) (m : Memory) (i k o n p t : ℕ) (ex : Extra (inHead m i) 
   seen (hand-over-fails e) s a = omega arith
   seen (reload-hand-over e) s a = omega arith
   seen (reload-hand-over-lost e) s a = omega arith
-  seen (release {j = j} e) s a = rw (remarked m i j (remove i (m .announcement j .marks)) i, remarked m i j (remove i (m .announcement j .marks)) t) (omega (arith, unmarks-at j (rw e (s .saved .1 .noted .mine))))
+  seen (release {j = j} e) s a = rw (remarked m i j (remove i (m .announcement j .marks)) i, remarked m i j (remove i (m .announcement j .marks)) t) (omega (arith, unmarks-at j (mark-found i e (s .saved .1 .noted .mine))))
   seen (release-fails e) s a = omega arith
   seen (reload-release e) s a = omega arith
   seen (reload-release-lost e) s a = omega arith
