@@ -18,3 +18,4 @@ pub mod Distance
 pub mod Debts
 pub mod Seen
 pub mod Course
+pub mod Waiting
