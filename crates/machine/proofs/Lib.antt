@@ -19,3 +19,4 @@ pub mod Debts
 pub mod Seen
 pub mod Course
 pub mod Waiting
+pub mod Answered

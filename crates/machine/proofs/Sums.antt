@@ -37,6 +37,9 @@ but-le p x f g h = go (ℕ-discrete x p)
     go (no n) = h n
 
 module _ (n p : ℕ) (f g : ℕ → ℕ) where
+  pub but-others : ((x : ℕ) → x ≢ p → g x ≤ f x) → sum n (but p g) ≤ sum n (but p f)
+  but-others h = sum-le n (but p f) (but p g) (λ x _. but-le p x f g (h x))
+
   -- Task i gives up a; no other share rises.
   pub but-change : (i a : ℕ) → i < n → ((x : ℕ) → x ≢ i → g x ≤ f x) → g i + a ≤ f i → sum n (but p g) + but p (λ _. a) i ≤ sum n (but p f)
   but-change i a l h y = omega (arith, sum-change n (but p f) (but p g) i (but p (λ _. a) i) 0 l (λ x d. but-le p x f g (λ _. h x d)) (go (ℕ-discrete i p)))
