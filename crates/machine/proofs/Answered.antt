@@ -145,11 +145,11 @@ unanswered-stays m m′ (Free q) e f = rw e refl
 unanswered-stays m m′ (Held q j r) e f = rw (e, f q j r refl) refl
 
 module _ (n i : ℕ) (lt : i < n) (c : Config) (m′ : Memory) (t′ : Task) (p : ℕ) where
-  abbrev c′ : Config
+  abbrev pub c′ : Config
   c′ = with i c m′ t′
 
   -- An ordinary change: task i pays with its rank.
-  load-stays : {s : Class} → Ordinary (c .memory) m′ i s → row (t′ .phase) .rank (inHead m′ i) (answered (content m′ i)) + s .cost (inHead (c .memory) i) ≤ rankOf c i
+  pub load-stays : {s : Class} → Ordinary (c .memory) m′ i s → row (t′ .phase) .rank (inHead m′ i) (answered (content m′ i)) + s .cost (inHead (c .memory) i) ≤ rankOf c i
       → headLoad n c′ p + but p (λ _. s .cost (inHead (c .memory) i)) i ≤ headLoad n c p
   load-stays {s} o r =
       omega (
@@ -159,7 +159,7 @@ module _ (n i : ℕ) (lt : i < n) (c : Config) (m′ : Memory) (t′ : Task) (p 
       )
 
   -- Seen by another task p.
-  head-stays : {s : Class} → i ≢ p → Ordinary (c .memory) m′ i s → row (t′ .phase) .rank (inHead m′ i) (answered (content m′ i)) + s .cost (inHead (c .memory) i) ≤ rankOf c i
+  pub head-stays : {s : Class} → i ≢ p → Ordinary (c .memory) m′ i s → row (t′ .phase) .rank (inHead m′ i) (answered (content m′ i)) + s .cost (inHead (c .memory) i) ≤ rankOf c i
       → Due (atHead (c .memory) p) (atHead m′ p) (headLoad n c p) (headLoad n c′ p) (λ h. one (stale (c .memory) (HeadWord h))) (λ h. one (stale m′ (HeadWord h)))
   head-stays {s} d o r =
       goes-on (s .cost (inHead (c .memory) i)) (λ t. o .marks p (λ z. d (sym z)) t || holds p (o .value t))
@@ -167,7 +167,7 @@ module _ (n i : ℕ) (lt : i < n) (c : Config) (m′ : Memory) (t′ : Task) (p 
       (λ h. o .words (HeadWord h))
 
   -- What the others owe to task t, but for p.
-  debts-fall : (t k : ℕ) → ((x : ℕ) → x ≢ i → (w : Work) → owes m′ x t w ≤ owes (c .memory) x t w) → owes m′ i t (row (t′ .phase) .work) + k ≤ owes (c .memory) i t (row (c .task i .phase) .work)
+  pub debts-fall : (t k : ℕ) → ((x : ℕ) → x ≢ i → (w : Work) → owes m′ x t w ≤ owes (c .memory) x t w) → owes m′ i t (row (t′ .phase) .work) + k ≤ owes (c .memory) i t (row (c .task i .phase) .work)
       → debts n c′ p t + but p (λ _. k) i ≤ debts n c p t
   debts-fall t k f h =
       but-change n p (λ x. owes (c .memory) x t (row (c .task x .phase) .work)) (λ x. owes m′ x t (row (c′ .task x .phase) .work)) i k lt
@@ -175,11 +175,11 @@ module _ (n i : ℕ) (lt : i < n) (c : Config) (m′ : Memory) (t′ : Task) (p 
       (rw (update-same (c .task) i t′) h)
 
   -- The announcement of task t, seen by another task p.
-  marks-stay : {s : Class} (t : ℕ) → i ≢ p → Fate (c .memory) m′ i t s
+  pub marks-stay : {s : Class} (t : ℕ) → i ≢ p → Fate (c .memory) m′ i t s
       → ((x : ℕ) → x ≢ i → (w : Work) → content m′ t ≡ content (c .memory) t → inAnnouncement m′ x t ≡ inAnnouncement (c .memory) x t → owes m′ x t w ≤ owes (c .memory) x t w)
       → owes m′ i t (row (t′ .phase) .work) + one (s .marks i t) ≤ owes (c .memory) i t (row (c .task i .phase) .work) + 4 * one (s .writes i t)
       → Due (inAnnouncement (c .memory) p t) (inAnnouncement m′ p t) (1 + debts n c p t) (1 + debts n c′ p t) (λ a. one (stale (c .memory) (AnnouncementWord t a))) (λ a. one (stale m′ (AnnouncementWord t a)))
-  marks-stay t d (rewritten f) g h = over (f p)
+  marks-stay t d (rewritten w f) g h = over (f p)
   marks-stay {s} t d (kept w v a f) g h =
       goes-on (one (s .marks i t)) (a p (λ z. d (sym z)))
       (omega (arith, rw (either-no (ℕ-discrete i p) 0 (one (s .marks i t)) d) at (debts-fall t (one (s .marks i t)) (λ x k u. g x k u v (a x k)) (omega (arith, rw w at h)))))

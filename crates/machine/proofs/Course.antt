@@ -60,7 +60,7 @@ held-own m {i} e = go (inHead m i)
     go false = rw e (decided-yes (ℕ-discrete i i) refl)
 
 module _ (b : Object) (m : Memory) (i k o n : ℕ) (c c′ : Config) (h h′ : ℕ) (head-most : h′ ≤ 9 * n + 1) (marks-most : (j : ℕ) → markPart n c′ i j ≤ 4 * n) where
-  abbrev Courses : Phase → Effect → Next → Type 0
+  abbrev pub Courses : Phase → Effect → Next → Type 0
   Courses f e y = Course (row f) (Falls n i m (effect i e m) c c′ h h′ f (phaseOf y) e) (kind f) e (kind (phaseOf y))
 
   here : one (stale m (HeadWord (m .head))) ≡ 0
@@ -76,7 +76,7 @@ module _ (b : Object) (m : Memory) (i k o n : ℕ) (c c′ : Config) (h h′ : �
   kept-exit : {x : Cell HeadValue} → h′ ≤ h + pick (true && not (atHead m i)) (9 * n + 1) 0 → m .head ≡ x → HeldBy i x → h′ ≤ h
   kept-exit l e (q, r, f) = let y : h′ ≤ h + 0 = rw (held-own m (value-found e ∙ f)) at l in omega arith
 
-  course : {f : Phase} {e : Effect} {y : Next} → Branch b m i k o f e y → TaskSafe m i o f
+  pub course : {f : Phase} {e : Effect} {y : Next} → Branch b m i k o f e y → TaskSafe m i o f
       → h′ ≤ h + pick (class e .links && not (atHead m i)) (9 * n + 1) 0
       → (e ≡ Unchanged → (j : ℕ) → markPart n c′ i j ≤ markPart n c i j) → Courses f e y
   course stay-idle s l g = rests

@@ -20,3 +20,5 @@ pub mod Seen
 pub mod Course
 pub mod Waiting
 pub mod Answered
+pub mod Stage
+pub mod Falling

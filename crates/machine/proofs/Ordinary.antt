@@ -122,7 +122,7 @@ sort b m i (Announced o) a = ordinary (own-ordinary m i (Op o) (Announced o) ref
 -- Rewritten, it has no mark; otherwise it keeps its content and the marks of the other tasks, and goes stale only if it
 -- is marked or unmarked.
 pub data Fate (m m′ : Memory) (i t : ℕ) (k : Class) : Type 0 where
-  rewritten : ((x : ℕ) → inAnnouncement m′ x t ≡ false) → Fate m m′ i t k
+  rewritten : k .writes i t ≡ true → ((x : ℕ) → inAnnouncement m′ x t ≡ false) → Fate m m′ i t k
   kept : k .writes i t ≡ false → content m′ t ≡ content m t → ((x : ℕ) → x ≢ i → inAnnouncement m′ x t ≡ inAnnouncement m x t)
       → ((a : Cell Content) → one (stale m′ (AnnouncementWord t a)) ≤ one (stale m (AnnouncementWord t a)) + one (k .marks i t))
       → Fate m m′ i t k
@@ -144,7 +144,7 @@ module _ (m : Memory) (i t : ℕ) where
     written-fate a e = go (ℕ-discrete j t) e
       where
         go : (d : Dec (j ≡ t)) → k .writes i t ≡ decided d → Fate m (withAnnouncement m j (unmarked a)) i t k
-        go (yes z) w = rewritten (λ x. rw (← z) (ap (λ (s : Cell Content). has x (s .marks)) (update-same (m .announcement) j (unmarked a)) ∙ has-none x))
+        go (yes z) w = rewritten w (λ x. rw (← z) (ap (λ (s : Cell Content). has x (s .marks)) (update-same (m .announcement) j (unmarked a)) ∙ has-none x))
         go (no d) w =
             let same : withAnnouncement m j (unmarked a) .announcement t ≡ m .announcement t = update-other (m .announcement) j (unmarked a) t d in
             kept w (value-found same) (λ x _. ap (λ (s : Cell Content). has x (s .marks)) same) (λ a. rw same (omega arith))

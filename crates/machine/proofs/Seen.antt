@@ -56,10 +56,10 @@ module _ (b : Object) (m : Memory) (i k o n p t : ℕ) (ex : Extra (inHead m i) 
       gone : inAnnouncement (effect i (ReleasedAt j) m) i j ≡ false
       gone = ap (λ (s : Cell Content). has i (s .marks)) (update-same (m .announcement) j (released i (m .announcement j))) ∙ has-remove i (m .announcement j .marks)
 
-  abbrev Sees : Phase → Effect → Next → Type 0
+  abbrev pub Sees : Phase → Effect → Next → Type 0
   Sees f e y = Seen m (effect i e m) i k n p t (row f) (row (phaseOf y)) e y
 
-  seen : {f : Phase} {e : Effect} {y : Next} → Branch b m i k o f e y → TaskSafe m i o f → Allowed b m i e → Sees f e y
+  pub seen : {f : Phase} {e : Effect} {y : Next} → Branch b m i k o f e y → TaskSafe m i o f → Allowed b m i e → Sees f e y
   seen stay-idle s a = omega arith
   seen read-only s a = omega arith
   seen announce s a = rw announced (omega (arith, written-owes m i (unmarked (Op o)) i t Elsewhere))
