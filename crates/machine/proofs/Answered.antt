@@ -184,3 +184,12 @@ module _ (n i : ℕ) (lt : i < n) (c : Config) (m′ : Memory) (t′ : Task) (p 
       goes-on (one (s .marks i t)) (a p (λ z. d (sym z)))
       (omega (arith, rw (either-no (ℕ-discrete i p) 0 (one (s .marks i t)) d) at (debts-fall t (one (s .marks i t)) (λ x k u. g x k u v (a x k)) (omega (arith, rw w at h)))))
       f
+
+  -- Its own announcement part stays while the cells do.
+  pub mark-same : m′ ≡ c .memory → (t : ℕ) → markPart n (with i c m′ t′) i t ≤ markPart n c i t
+  mark-same e t =
+      rw e (pick-mono (inAnnouncement (c .memory) i t) _ _ (omega (
+        arith,
+        but-others n i (λ x. owes (c .memory) x t (row (c .task x .phase) .work)) (λ x. owes (c .memory) x t (row (update (c .task) i t′ x .phase) .work))
+            (λ x d. rw (update-other (c .task) i t′ x (λ z. d (sym z))) (omega arith)),
+      )))

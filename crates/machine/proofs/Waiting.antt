@@ -11,7 +11,7 @@ use Rattle.machine.specs.Memory.{HeadValue, Free, Held, Content, Op, Res
 use Rattle.machine.specs.Machine.{Task, pick}
 use Rattle.machine.specs.Run.{Config}
 use Rattle.machine.specs.Invariant.{inHead, headValue, content}
-use Rattle.machine.specs.Potential.{row, answered, waiting, one, stale, but, sum, rankOf, ranks, dist, distOf, dists, stages, stageWeight, reserve, placeOf, waitingPotential}
+use Rattle.machine.specs.Potential.{row, answered, waiting, one, stale, but, sum, rankOf, ranks, dist, distOf, dists, stages, stageWeight, reserve, placeOf, waitingPotential, bound}
 use Rattle.machine.proofs.Update.{update-same, update-other, either-no}
 use Rattle.machine.proofs.Effect.{Effect, Cleared, Applied, HandedOver, effect, Allowed}
 use Rattle.machine.proofs.Own.{value-found}
@@ -19,7 +19,8 @@ use Rattle.machine.proofs.Readings.{waiting-not, resp-not-op}
 use Rattle.machine.proofs.Class.{Class}
 use Rattle.machine.proofs.Ordinary.{Ordinary}
 use Rattle.machine.proofs.Rows.{row-bounds, place-most}
-use Rattle.machine.proofs.Sums.{sum-change, but-change, but-most}
+use Rattle.machine.proofs.Sums.{sum-most, sum-change, but-change, but-most}
+use Rattle.machine.proofs.Distance.{dist-most}
 
 -- The configuration with the cells m′ and the record t′ of task i.
 abbrev pub with : (i : ℕ) → Config → Memory → Task → Config
@@ -125,3 +126,10 @@ module _ (n i : ℕ) (lt : i < n) (c : Config) (m′ : Memory) (t′ : Task) (p 
   pub waiting-falls : p < n → stages p (dists n p (with i c m′ t′)) m′ (headValue m′) + 1 ≤ stages p (dists n p c) (c .memory) (headValue (c .memory))
       → waitingPotential n (with i c m′ t′) p + 1 ≤ waitingPotential n c p
   waiting-falls h x = pays n _ _ _ _ _ _ (reserve n) x (ranks-most n (with i c m′ t′) p h) (place-most m′ p (with i c m′ t′ .task p .phase))
+
+-- The most that it may be.
+pub waiting-most : (n : ℕ) (c : Config) (p : ℕ) → p < n → waitingPotential n c p + 1 ≤ bound n
+waiting-most n c p h =
+    let near : dists n p c ≤ n * n = sum-most n n (distOf n p c) (λ x. dist-most n p (c .task x .priority) (row (c .task x .phase) .work) h) in
+    let few : stages p (dists n p c) (c .memory) (headValue (c .memory)) + 1 ≤ 3 * (n * n) + 5 = omega (arith, stages-most p (dists n p c) (c .memory) (headValue (c .memory))) in
+    omega (arith, pays n _ _ 0 _ 0 _ (reserve n) few (ranks-most n c p h) (place-most (c .memory) p (c .task p .phase)))
