@@ -22,3 +22,4 @@ pub mod Waiting
 pub mod Answered
 pub mod Stage
 pub mod Falling
+pub mod Beginning
