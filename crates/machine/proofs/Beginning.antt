@@ -19,6 +19,10 @@ use Rattle.machine.proofs.Waiting.{dists-fall, waiting-stays, place-oth
 use Rattle.machine.proofs.Answered.{Less, lasts-no-longer, head-stays, marks-stay}
 use Rattle.machine.proofs.Falling.{kind-stays}
 
+-- The record of a task that began.
+abbrev pub begunTask : Object → (j o : ℕ) → Config → Task
+begunTask b j o c = record { phase = firstPhase (b .changing o); operation = o; priority = c .task j .priority; steps = 0 }
+
 first-row : (x : Bool) → row (firstPhase x) ≡ row Idle
 first-row true = refl
 first-row false = refl
@@ -28,7 +32,7 @@ module _ (b : Object) (n j o : ℕ) (lt : j < n) (c : Config) (safe : Safe c) (i
   m = c .memory
 
   abbrev t′ : Task
-  t′ = record { phase = firstPhase (b .changing o); operation = o; priority = c .task j .priority; steps = 0 }
+  t′ = begunTask b j o c
 
   abbrev c′ : Config
   c′ = begun b j o c .config
@@ -45,7 +49,7 @@ module _ (b : Object) (n j o : ℕ) (lt : j < n) (c : Config) (safe : Safe c) (i
         omega (
           arith,
           waiting-stays n j lt c m t′ p 0 (unchanged m j) rank
-              (omega (arith, dists-fall n j lt c m t′ p 0 (omega (arith, ap (λ (r : Row). dist n p (c .task j .priority) (r .work)) same))))
+              (omega (arith, dists-fall n j lt c m t′ p 0 (omega (arith, ap (λ (r : Row). dist n p (t′ .priority) (r .work)) same))))
               (place-other n j lt c m t′ p (unchanged m j) d),
         )
 

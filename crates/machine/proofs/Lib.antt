@@ -23,3 +23,4 @@ pub mod Answered
 pub mod Stage
 pub mod Falling
 pub mod Beginning
+pub mod WaitFree

@@ -1,6 +1,6 @@
 -- The potential of an operation: a bound of the own steps that it may still take, whatever the other tasks do.
 use mathlib.Core.Bool.{Bool, true, false, _||_, _&&_, not}
-use Prim.Native.Nat.{ℕ, zero, suc, _+_, _*_, _-_}
+use Prim.Native.Nat.{ℕ, zero, suc, _+_, _*_, _-_, _≤_, _<_}
 use native.Mathlib.Decide.{ℕ-discrete, decLe}
 use Rattle.machine.specs.Memory.{HeadValue, Free, Held, Content, Empty, Op, Resp, Cell, Memory, either, head-dec, announcement-dec}
 use Rattle.machine.specs.Machine.{Phase, Idle, ReadOnly, Announce, Poll, LoadHead, LinkHead, LoadPriority, LoadOwn, Apply, ReloadApply, LoadHelped, LinkHelped, Validate, HandOver, ReloadHandOver, Release, ReloadRelease, ClearHead, ReloadClear, LoadExit, LinkExit, ClearExit, ReleaseExit, Retract, Task, decided, pick}
@@ -284,3 +284,7 @@ potentialBy n c i (Retracting v) a = announcedPotential n c i a
 
 abbrev pub potential : ℕ → Config → ℕ → ℕ
 potential n c i = potentialBy n c i (kind (c .task i .phase)) (content (c .memory) i)
+
+-- The own steps that an operation has taken, and those that it may still take, are within the bound.
+abbrev pub Bounded : ℕ → Config → Type 0
+Bounded n c = (t : ℕ) → t < n → c .task t .steps + potential n c t ≤ bound n
