@@ -27,7 +27,7 @@ is-response e = rw e tt
 announces : {a : Content} {o : ℕ} → a ≡ Op o → Announces a o
 announces e = rw e refl
 
-not-empty : {a : Content} (o : ℕ) → Announces a o → a ≡ Empty → ⊥
+pub not-empty : {a : Content} (o : ℕ) → Announces a o → a ≡ Empty → ⊥
 not-empty o y e = let z : Announces Empty o = rw e at y in z
 
 -- What agrees with an outcome and is no operation is a response.

@@ -109,17 +109,17 @@ own-step (step-task z) h d = absurd (z h)
 own-step (step-idle _ z) h d = clash (ap (λ f. off (kind f)) z) d
 
 -- The record of a task with a pending operation.
-record OwnRecord (n : ℕ) (c : Config) (t o s : ℕ) : Type 0 where
-  below : t < n
-  works : off (kind (c .task t .phase)) ≡ false
-  operation : c .task t .operation ≡ o
-  steps : c .task t .steps ≡ s
+pub record OwnRecord (n : ℕ) (c : Config) (t o s : ℕ) : Type 0 where
+  pub below : t < n
+  pub works : off (kind (c .task t .phase)) ≡ false
+  pub operation : c .task t .operation ≡ o
+  pub steps : c .task t .steps ≡ s
 
 pends-record : (d : Bool) (o s o′ s′ : ℕ) → pick d Nothing (Pends o s) ≡ Pends o′ s′ → (d ≡ false) × (o ≡ o′) × (s ≡ s′)
 pends-record true o s o′ s′ e = (cc, cc, cc)
 pends-record false o s o′ s′ e = (refl, cc, cc)
 
-own-record : (b : Object) (n : ℕ) (c : Config) → Formed b n c → (t o s : ℕ) → pendingOf (c .task t) ≡ Pends o s → OwnRecord n c t o s
+pub own-record : (b : Object) (n : ℕ) (c : Config) → Formed b n c → (t o s : ℕ) → pendingOf (c .task t) ≡ Pends o s → OwnRecord n c t o s
 own-record b n c f t o s e = record { below = go (decLt t n); works = z .0; operation = z .1; steps = z .2 }
   where
     z : (off (kind (c .task t .phase)) ≡ false) × (c .task t .operation ≡ o) × (c .task t .steps ≡ s)
