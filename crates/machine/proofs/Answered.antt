@@ -5,12 +5,11 @@ use mathlib.Core.Logic.{_≢_}
 use Prim.Native.Nat.{ℕ, _+_, _*_, _≤_, _<_}
 use native.Mathlib.Decide.{ℕ-discrete}
 use native.Mathlib.Omega.{arith}
-use Rattle.machine.specs.Object.{Object}
-use Rattle.machine.specs.Memory.{HeadValue, Free, Held, Content, Op, Resp, Cell, Memory, update, head-dec, announcement-dec}
+use Rattle.machine.specs.Memory.{HeadValue, Free, Held, Content, Cell, Memory, update, head-dec, announcement-dec}
 use Rattle.machine.specs.Machine.{Phase, Idle, ReadOnly, Announce, Poll, LoadHead, LinkHead, LoadPriority, LoadOwn, Apply, ReloadApply, LoadHelped, LinkHelped, Validate, HandOver, ReloadHandOver, Release, ReloadRelease, ClearHead, ReloadClear, LoadExit, LinkExit, ClearExit, ReleaseExit, Retract, Task, pick}
 use Rattle.machine.specs.Run.{Config}
 use Rattle.machine.specs.Invariant.{inHead, inAnnouncement, headValue, content, OwnSaved}
-use Rattle.machine.specs.Potential.{Row, row, Work, Elsewhere, Linking, Passing, Applying, Approaching, Marking, Finishing, HeadWord, AnnouncementWord, one, answered, waiting, stale, holds, unanswered, but, sum, rankOf, ranks, linking, counts, owes, atHead, headLoad, debts, markPart, announcementPart, answeredPotential}
+use Rattle.machine.specs.Potential.{row, Work, Elsewhere, Linking, Passing, Applying, Approaching, Marking, Finishing, HeadWord, AnnouncementWord, one, answered, stale, holds, unanswered, but, rankOf, linking, counts, owes, atHead, headLoad, debts, markPart, announcementPart, answeredPotential}
 use Rattle.machine.proofs.Update.{clash, update-same, update-other, either-no}
 use Rattle.machine.proofs.Own.{value-found, mark-found}
 use Rattle.machine.proofs.Readings.{one-le, pick-le, pick-mono, lost-word}

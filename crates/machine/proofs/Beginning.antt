@@ -2,15 +2,15 @@
 use mathlib.Core.Path.{_≡_, refl, sym, _∙_, ap}
 use mathlib.Core.Bool.{Bool, true, false}
 use mathlib.Core.Logic.{_≢_}
-use Prim.Native.Nat.{ℕ, _+_, _*_, _≤_, _<_}
+use Prim.Native.Nat.{ℕ, _+_, _≤_, _<_}
 use native.Mathlib.Omega.{arith}
 use Rattle.machine.specs.Object.{Object}
-use Rattle.machine.specs.Memory.{Content, Empty, Op, Resp, Memory, update}
-use Rattle.machine.specs.Machine.{Phase, Idle, Task}
+use Rattle.machine.specs.Memory.{Content, Empty, Op, Resp, Memory}
+use Rattle.machine.specs.Machine.{Idle, Task}
 use Rattle.machine.specs.Kind.{kind}
 use Rattle.machine.specs.Run.{Config, firstPhase, begun}
-use Rattle.machine.specs.Invariant.{inHead, inAnnouncement, content, OwnSaved, Safe}
-use Rattle.machine.specs.Potential.{Row, row, answered, rankOf, distOf, dist, owes, bound, waitingPotential, answeredPotential, announcedPotential, potentialBy, potential}
+use Rattle.machine.specs.Invariant.{inHead, content, Safe}
+use Rattle.machine.specs.Potential.{Row, row, answered, rankOf, dist, owes, bound, waitingPotential, announcedPotential, potentialBy, potential}
 use Rattle.machine.proofs.Update.{update-same, update-other}
 use Rattle.machine.proofs.Effect.{Unchanged}
 use Rattle.machine.proofs.Class.{class}

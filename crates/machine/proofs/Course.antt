@@ -1,19 +1,19 @@
 -- A step as its own task sees it: the place in the loop, and once there is a response all that may still hold the task up.
-use mathlib.Core.Path.{_≡_, refl, sym, _∙_, ap}
+use mathlib.Core.Path.{_≡_, refl, _∙_, ap}
 use mathlib.Core.Bool.{Bool, true, false, _&&_, _||_, not}
 use Prim.Native.Nat.{ℕ, _+_, _*_, _≤_}
 use native.Mathlib.Decide.{ℕ-discrete}
 use native.Mathlib.Omega.{arith}
-use Rattle.machine.specs.Marks.{has, add, has-add}
+use Rattle.machine.specs.Marks.{has-add}
 use Rattle.machine.specs.Object.{Object}
-use Rattle.machine.specs.Memory.{HeadValue, Held, Content, Op, Resp, Cell, Memory, head-dec, announcement-dec}
+use Rattle.machine.specs.Memory.{HeadValue, Held, Content, Cell, Memory, head-dec, announcement-dec}
 use Rattle.machine.specs.Machine.{Phase, Next, phaseOf, decided, pick, linked}
 use Rattle.machine.specs.Kind.{Kind, Off, Reading, Opening, Looping, Exiting, Retracting, kind}
 use Rattle.machine.specs.Run.{Config}
-use Rattle.machine.specs.Invariant.{inHead, inAnnouncement, headValue, content, IsResp, HeldBy, TaskSafe}
+use Rattle.machine.specs.Invariant.{inHead, headValue, content, IsResp, HeldBy, TaskSafe}
 use Rattle.machine.specs.Potential.{Row, row, HeadWord, AnnouncementWord, one, stale, holds, placeOf, atHead, linking, counts, markPart, announcementPart}
 use Rattle.machine.proofs.Update.{update-same}
-use Rattle.machine.proofs.Effect.{Effect, Unchanged, Linked, Retracted, LinkedAt, Announced, effect}
+use Rattle.machine.proofs.Effect.{Effect, Unchanged, Retracted, LinkedAt, Announced, effect}
 use Rattle.machine.proofs.Branch.{Branch, stay-idle, read-only, announce, poll-response, poll-waits, load-head, link-free, link-held, link-fails, priority-waits, priority-rests, own-waits, own-response, own-empty, apply, apply-fails, reload-apply, reload-apply-lost, load-helped, link-helped, link-rested, link-helped-fails, validate, validate-fails, hand-over, hand-over-fails, reload-hand-over, reload-hand-over-lost, release, release-fails, reload-release, reload-release-lost, clear, clear-fails, reload-clear, reload-clear-lost, exit-clear, exit-release, exit-link, exit-retract, link-exit, link-exit-fails, clear-exit, clear-exit-fails, release-exit, release-exit-fails, retract}
 use Rattle.machine.proofs.Own.{value-found, not-empty}
 use Rattle.machine.proofs.Readings.{one-le, decided-yes, found-word, lost-word}

@@ -6,18 +6,18 @@ use Prim.Native.Nat.{ℕ, _+_, _*_, _≤_, _<_}
 use native.Mathlib.Decide.{ℕ-discrete}
 use native.Mathlib.Omega.{arith}
 use Rattle.machine.specs.Object.{Object}
-use Rattle.machine.specs.Memory.{HeadValue, Held, Content, Empty, Op, Resp, Cell, Memory, either, update}
-use Rattle.machine.specs.Machine.{Phase, Task, Next, phaseOf, turns, advance, decided, pick}
+use Rattle.machine.specs.Memory.{Content, Empty, Op, Resp, Memory}
+use Rattle.machine.specs.Machine.{Task, Next, phaseOf, turns, advance, pick}
 use Rattle.machine.specs.Kind.{Kind, Off, Reading, Opening, Looping, Exiting, Retracting, kind}
 use Rattle.machine.specs.Run.{Config}
-use Rattle.machine.specs.Invariant.{inHead, inAnnouncement, headValue, content, IsResp, Announces, OwnContent, TaskSafe, Safe}
-use Rattle.machine.specs.Potential.{row, Work, HeadWord, AnnouncementWord, one, answered, stale, holds, but, rankOf, dist, dists, distOf, stages, stageWeight, reserve, placeOf, waitingPotential, owes, atHead, headLoad, debts, markPart, answeredPotential, bound, announcedPotential, potentialBy, potential}
-use Rattle.machine.proofs.Update.{clash, update-same, update-other, either-yes}
-use Rattle.machine.proofs.Effect.{Effect, Unchanged, Cleared, Retracted, Applied, HandedOver, Announced, effect, Allowed}
+use Rattle.machine.specs.Invariant.{inHead, headValue, content, IsResp, OwnContent, Safe}
+use Rattle.machine.specs.Potential.{row, one, answered, holds, but, rankOf, dists, placeOf, waitingPotential, atHead, headLoad, answeredPotential, announcedPotential, potentialBy, potential}
+use Rattle.machine.proofs.Update.{clash, update-same, update-other}
+use Rattle.machine.proofs.Effect.{Effect, Cleared, Applied, HandedOver, Announced, effect, Allowed}
 use Rattle.machine.proofs.Moved.{moved, Steps}
 use Rattle.machine.proofs.Rely.{relies}
 use Rattle.machine.proofs.Own.{allowed, value-found, is-response, not-empty}
-use Rattle.machine.proofs.Readings.{pick-le, pick-mono, one-le}
+use Rattle.machine.proofs.Readings.{pick-le, one-le}
 use Rattle.machine.proofs.Class.{class}
 use Rattle.machine.proofs.Ordinary.{Ordinary, Sort, ordinary, clears, applies, hands-over, sort, elsewhere, Fate, rewritten, kept, fate}
 use Rattle.machine.proofs.Rows.{extras}
@@ -25,7 +25,7 @@ use Rattle.machine.proofs.Debts.{other-owes}
 use Rattle.machine.proofs.Seen.{Seen, seen}
 use Rattle.machine.proofs.Course.{Busy, Falls, lasts, Course, rests, reads, opens, works, ends, course}
 use Rattle.machine.proofs.Waiting.{dists-fall, stages-clear, stages-apply, stages-hand-over, waiting-stays, place-other, waiting-falls, waiting-most}
-use Rattle.machine.proofs.Answered.{Due, due-part, headDue, Less, lasts-no-longer, head-most, mark-most, answered-most, load-stays, head-stays, marks-stay, mark-same}
+use Rattle.machine.proofs.Answered.{due-part, headDue, Less, lasts-no-longer, head-most, mark-most, answered-most, load-stays, head-stays, marks-stay, mark-same}
 use Rattle.machine.proofs.Stage.{clear-keeps-turn, hand-over-keeps-turn, apply-turns, HeadDue, clear-head, apply-head, hand-over-head}
 
 false-of : (x : Bool) → one x ≤ 0 → x ≡ false
@@ -113,7 +113,7 @@ module _ (b : Object) (n i : ℕ) (lt : i < n) (c : Config) (safe : Safe c) (bel
         rw f (omega (
           arith,
           waiting-falls n i lt c (effect i (Applied q j r) m) (advance n (c .task i) y) p below-p
-              (stages-apply b m i p x _ _ f q j r a (λ d. dists-fall n i lt c (effect i (Applied q j r) m) (advance n (c .task i) y) p 1 (apply-turns n p v below-p below d))),
+              (stages-apply b m i p x _ _ f q j r a (λ d. dists-fall n i lt c (effect i (Applied q j r) m) (advance n (c .task i) y) p 1 (apply-turns n p (c .task i) v below-p below d))),
         ))
     waits {y = y} v (hands-over {j = j} {r = r} a) g = go (ℕ-discrete j p)
       where

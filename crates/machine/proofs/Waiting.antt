@@ -1,5 +1,5 @@
 -- The potential of an operation that waits for its response, when the cells and the record of one task i change.
-use mathlib.Core.Path.{_≡_, refl, sym, _∙_, ap}
+use mathlib.Core.Path.{_≡_, refl, sym}
 use mathlib.Core.Bool.{Bool, true, false}
 use mathlib.Core.Logic.{_≢_}
 use Prim.Native.Nat.{ℕ, _+_, _*_, _≤_, _<_}
@@ -7,13 +7,13 @@ use native.Mathlib.Decide.{ℕ-discrete}
 use native.Mathlib.Nat.{mul-le-mul-right}
 use native.Mathlib.Omega.{arith}
 use Rattle.machine.specs.Object.{Object}
-use Rattle.machine.specs.Memory.{HeadValue, Free, Held, Content, Op, Resp, Cell, Memory, either, update}
+use Rattle.machine.specs.Memory.{HeadValue, Free, Held, Content, Op, Resp, Memory, either, update}
 use Rattle.machine.specs.Machine.{Task, pick}
 use Rattle.machine.specs.Run.{Config}
 use Rattle.machine.specs.Invariant.{inHead, headValue, content}
-use Rattle.machine.specs.Potential.{row, answered, waiting, one, stale, but, sum, rankOf, ranks, dist, distOf, dists, stages, stageWeight, reserve, placeOf, waitingPotential, bound}
+use Rattle.machine.specs.Potential.{row, answered, waiting, but, rankOf, ranks, dist, distOf, dists, stages, stageWeight, reserve, placeOf, waitingPotential, bound}
 use Rattle.machine.proofs.Update.{update-same, update-other, either-no}
-use Rattle.machine.proofs.Effect.{Effect, Cleared, Applied, HandedOver, effect, Allowed}
+use Rattle.machine.proofs.Effect.{Cleared, Applied, HandedOver, effect, Allowed}
 use Rattle.machine.proofs.Own.{value-found}
 use Rattle.machine.proofs.Readings.{waiting-not, resp-not-op}
 use Rattle.machine.proofs.Class.{Class}
