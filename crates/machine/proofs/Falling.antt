@@ -29,7 +29,7 @@ use Rattle.machine.proofs.Answered.{due-part, HeadDue, Less, lasts-no-l
 use Rattle.machine.proofs.Stage.{clear-keeps-turn, hand-over-keeps-turn, apply-turns, clear-head, apply-head, hand-over-head}
 
 false-of : (x : Bool) → one x ≤ 0 → x ≡ false
-false-of true h = let z : _≡_ {A = ℕ} 0 1 = omega arith in absurd (omega arith)
+false-of true h = absurd (omega arith)
 false-of false h = refl
 
 or-one : (x x′ y : Bool) (k : ℕ) → one x′ ≤ one x + k → one (x′ || y) ≤ one (x || y) + k
@@ -47,6 +47,7 @@ own-due a false l s s′ most x y z = omega arith
 
 -- ---- By the kind of the phase
 
+-- A busy task has announced.
 busy-announced : (k : Kind) {a : Content} (o : ℕ) → Busy k → OwnContent a o k → a ≡ Empty → ⊥
 busy-announced Off o u y e = u
 busy-announced Reading o u y e = u
@@ -165,6 +166,7 @@ module _ (b : Object) (n i : ℕ) (lt : i < n) (c : Config) (safe : Safe c) (bel
 
   -- ---- The task that steps
 
+  -- Its announcement keeps its content in an ordinary step, and its response in any.
   own-stays : (e : Effect) → Ordinary m (effect i e m) i (class e) → one (class e .writes i i) ≤ class e .stage → content (effect i e m) i ≡ content m i
   own-stays e o h = go (fate m i i e)
     where
@@ -178,6 +180,7 @@ module _ (b : Object) (n i : ℕ) (lt : i < n) (c : Config) (safe : Safe c) (bel
   own-answered (applies a) h f = f
   own-answered {r = r} (hands-over {j = j} a) h f = elsewhere m i j i _ (λ z. (let u : content m i ≡ Op (a .1) = rw (← z) (a .3) in let w : _≡_ {A = ℕ} 0 1 = cc in omega arith)) ∙ f
 
+  -- Its part of the head becomes due by a link alone.
   own-head : {e : Effect} {y : Next} → Steps b i c e y → Sort b m i e → IsResp (content m i) → headPart n (after e y) i ≤ headPart n c i + pick (class e .links && not (atHead m i)) (9 * n + 1) 0
   own-head {e} {y} v (ordinary o) r =
       own-due (atHead m i) (atHead (effect i e m) i) (class e .links) _ _ (9 * n + 1)
@@ -193,6 +196,7 @@ module _ (b : Object) (n i : ℕ) (lt : i < n) (c : Config) (safe : Safe c) (bel
       course b m i (c .task i .priority) (c .task i .operation) n h h′ (markPart n c i) (markPart n (after e y) i) most (mark-most n (after e y) i lt) v (safe .each i) l
       (λ z. mark-same n i lt c (effect i e m) (advance n (c .task i) y) i (ap (λ (e : Effect). effect i e m) z))
 
+  -- By the course of its operation.
   own-by : {k k′ : Kind} {e : Effect} {y : Next} {F : Type 0} → Steps b i c e y → Course (row (c .task i .phase)) F k e k′ → (k ≡ Off → ⊥)
       → (F → Busy k × Busy k′ × (announcedPotential n (after e y) i (content (effect i e m) i) + 1 ≤ announcedPotential n c i (content m i)))
       → potentialBy n (after e y) i k′ (content (effect i e m) i) + 1 ≤ potentialBy n c i k (content m i)
