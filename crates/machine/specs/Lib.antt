@@ -1,0 +1,14 @@
+pub mod Marks
+pub mod Object
+pub mod Memory
+pub mod Machine
+pub mod Kind
+pub mod Run
+pub mod Book
+pub mod History
+pub mod Keeping
+pub mod Demand
+pub mod Invariant
+pub mod Points
+pub mod Form
+pub mod Potential
