@@ -1,0 +1,49 @@
+-- Document 01, "The cells": which words are in form, with s states, m operations and n tasks.
+use mathlib.Core.Bool.{Bool, true, _&&_}
+use mathlib.Core.List.{List, [], _∷_}
+use Prim.Native.Nat.{ℕ, _^_}
+use lib.Dec.{eqb, ltb, leb}
+use lib.ListN.{getD}
+use Rattle.cells.specs.Field.{unpack, total}
+use Rattle.cells.specs.Layout.{headWidths, announcementWidths, marks}
+use Rattle.cells.specs.Marks.{pick}
+
+-- The largest number in a holder field, with n tasks.
+abbrev pub holderBound : ℕ → ℕ
+holderBound n = 8
+
+-- The marks are those of tasks below n.
+unfoldable pub marksInForm : ℕ → ℕ → Bool
+marksInForm n w = ltb (marks w) (2 ^ n)
+
+-- The state is below s, the holder within its bound, and without a holder the response is 0.
+unfoldable pub headFieldsInForm : ℕ → ℕ → List ℕ → Bool
+headFieldsInForm s n vs =
+    ltb (getD vs 1 0) s && (leb (getD vs 3 0) (holderBound n) && pick (eqb (getD vs 3 0) 0) (eqb (getD vs 2 0) 0) true)
+
+-- Bits that aren't named are 0, and marks and fields are in form.
+unfoldable pub headInForm : ℕ → ℕ → ℕ → Bool
+headInForm s n w = ltb w (2 ^ total headWidths) && (marksInForm n w && headFieldsInForm s n (unpack headWidths w))
+
+-- Kind 0 has payload 0, kind 1 an operation below m, kind 2 any response, and there is no other kind.
+unfoldable pub payloadInForm : ℕ → ℕ → ℕ → Bool
+payloadInForm m k p = pick (eqb k 0) (eqb p 0) (pick (eqb k 1) (ltb p m) (eqb k 2))
+
+-- The bits between kind and payload are 0, and the payload is in form.
+unfoldable pub announcementFieldsInForm : ℕ → List ℕ → Bool
+announcementFieldsInForm m vs = eqb (getD vs 2 0) 0 && payloadInForm m (getD vs 1 0) (getD vs 3 0)
+
+-- Bits that aren't named are 0, and marks and fields are in form.
+unfoldable pub announcementInForm : ℕ → ℕ → ℕ → Bool
+announcementInForm m n w =
+    ltb w (2 ^ total announcementWidths) && (marksInForm n w && announcementFieldsInForm m (unpack announcementWidths w))
+
+-- Every word of a list is in form as an announcement.
+unfoldable pub announcementsInForm : ℕ → ℕ → List ℕ → Bool
+announcementsInForm m n [] = true
+announcementsInForm m n (w ∷ ws) = announcementInForm m n w && announcementsInForm m n ws
+
+-- The first cell is in form as a head, and each other as an announcement.
+unfoldable pub cellsInForm : ℕ → ℕ → ℕ → List ℕ → Bool
+cellsInForm s m n [] = true
+cellsInForm s m n (w ∷ ws) = headInForm s n w && announcementsInForm m n ws

@@ -1,0 +1,109 @@
+-- Document 01, "The cells": the fields of a head and of an announcement.
+use mathlib.Core.Bool.{Bool, true, false}
+use mathlib.Core.List.{List, [], _∷_}
+use Prim.Native.Nat.{ℕ, _+_, _-_, _/_, _%_, _^_}
+use lib.Dec.{eqb, ltb}
+use lib.ListN.{getD}
+use Rattle.cells.specs.Field.{pack, unpack}
+use Rattle.cells.specs.Marks.{pick, has, add, remove}
+use Rattle.cells.specs.declared.head.Head.{Head}
+use Rattle.cells.specs.declared.head.Head.the-variants.{Free, Held}
+use Rattle.cells.specs.declared.announcement.Announcement.{Announcement}
+use Rattle.cells.specs.declared.announcement.Announcement.the-variants.{Empty, Operation, Response}
+
+-- The width of each field in bits.
+abbrev pub marksWidth : ℕ
+marksWidth = 8
+
+abbrev pub stateWidth : ℕ
+stateWidth = 8
+
+abbrev pub responseWidth : ℕ
+responseWidth = 8
+
+abbrev pub holderWidth : ℕ
+holderWidth = 4
+
+abbrev pub kindWidth : ℕ
+kindWidth = 2
+
+abbrev pub gapWidth : ℕ
+gapWidth = 6
+
+abbrev pub payloadWidth : ℕ
+payloadWidth = 8
+
+-- A head has marks, state, response and holder, the lowest first.
+abbrev pub headWidths : List ℕ
+headWidths = marksWidth ∷ stateWidth ∷ responseWidth ∷ holderWidth ∷ []
+
+-- An announcement has marks, kind, bits that stay 0, and a payload.
+abbrev pub announcementWidths : List ℕ
+announcementWidths = marksWidth ∷ kindWidth ∷ gapWidth ∷ payloadWidth ∷ []
+
+-- The value of a cell is its word without the marks.
+abbrev pub value : ℕ → ℕ
+value w = w / 2 ^ marksWidth
+
+-- The marks of a cell are its lowest bits.
+abbrev pub marks : ℕ → ℕ
+marks w = w % 2 ^ marksWidth
+
+-- The place value of a task's mark; a task beyond the marks has none.
+unfoldable pub markOf : ℕ → ℕ
+markOf i = pick (ltb i marksWidth) (2 ^ i) 0
+
+-- Task i has its mark in the cell; a task beyond the marks never has.
+unfoldable pub hasMark : ℕ → ℕ → Bool
+hasMark i w = pick (ltb i marksWidth) (has i w) false
+
+-- The cell with task i's mark; a task beyond the marks changes nothing.
+unfoldable pub addMark : ℕ → ℕ → ℕ
+addMark i w = pick (ltb i marksWidth) (add i w) w
+
+-- The cell without task i's mark; a task beyond the marks changes nothing.
+unfoldable pub removeMark : ℕ → ℕ → ℕ
+removeMark i w = pick (ltb i marksWidth) (remove i w) w
+
+-- The values of a head's fields; the holder is 0 for none, else the task's number plus 1.
+abbrev pub headValues : Head → ℕ → List ℕ
+headValues (Free q) m = m ∷ q ∷ 0 ∷ 0 ∷ []
+headValues (Held q j r) m = m ∷ q ∷ r ∷ (j + 1) ∷ []
+
+-- The head that these values of state, response and holder say.
+abbrev pub headAt : ℕ → ℕ → ℕ → Head
+headAt q r h = pick (eqb h 0) (Free q) (Held q (h - 1) r)
+
+-- The head that a list of field values says.
+abbrev pub headFrom : List ℕ → Head
+headFrom vs = headAt (getD vs 1 0) (getD vs 2 0) (getD vs 3 0)
+
+-- The word of a head with these marks.
+unfoldable pub headWord : Head → ℕ → ℕ
+headWord x m = pack headWidths (headValues x m)
+
+-- The head that a word holds.
+unfoldable pub headOf : ℕ → Head
+headOf w = headFrom (unpack headWidths w)
+
+-- The values of an announcement's fields; the kind is 0 for empty, 1 for an operation, 2 for a response.
+abbrev pub announcementValues : Announcement → ℕ → List ℕ
+announcementValues Empty m = m ∷ 0 ∷ 0 ∷ 0 ∷ []
+announcementValues (Operation o) m = m ∷ 1 ∷ 0 ∷ o ∷ []
+announcementValues (Response r) m = m ∷ 2 ∷ 0 ∷ r ∷ []
+
+-- The announcement that these values of kind and payload say; an unknown kind says nothing.
+abbrev pub announcementAt : ℕ → ℕ → Announcement
+announcementAt k p = pick (eqb k 1) (Operation p) (pick (eqb k 2) (Response p) Empty)
+
+-- The announcement that a list of field values says.
+abbrev pub announcementFrom : List ℕ → Announcement
+announcementFrom vs = announcementAt (getD vs 1 0) (getD vs 3 0)
+
+-- The word of an announcement with these marks.
+unfoldable pub announcementWord : Announcement → ℕ → ℕ
+announcementWord x m = pack announcementWidths (announcementValues x m)
+
+-- The announcement that a word holds.
+unfoldable pub announcementOf : ℕ → Announcement
+announcementOf w = announcementFrom (unpack announcementWidths w)

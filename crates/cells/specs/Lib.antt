@@ -1,0 +1,8 @@
+pub mod Marks
+pub mod MarkLaws
+pub mod Field
+pub mod Layout
+pub mod Form
+pub mod Image
+pub mod Count
+pub mod Ceiling

@@ -1,0 +1,37 @@
+// The announcement of a task: nothing, an operation that is to be applied, or its response.
+use crate::layout::KIND_PLACE;
+use crate::layout::KIND_SIZE;
+use crate::layout::PAYLOAD_PLACE;
+use crate::layout::PAYLOAD_SIZE;
+ghost use mathlib.Core.Path.{_≡_};
+ghost use Rattle.cells.specs.Layout.{announcementWord, announcementOf};
+
+pub enum Announcement {
+    Empty,
+    Operation(u16),
+    Response(u16),
+}
+
+// The word of an announcement with these marks.
+pub fn announcement_word(announcement: Announcement, marks: u8) -> u64
+    ensures { λ r. ⌜ r ≡ announcementWord announcement marks ⌝ }
+{
+    match announcement {
+        Announcement::Empty => marks as u64,
+        Announcement::Operation(o) => marks as u64 + KIND_PLACE + o as u64 * PAYLOAD_PLACE,
+        Announcement::Response(r) => marks as u64 + 2 * KIND_PLACE + r as u64 * PAYLOAD_PLACE,
+    }
+}
+
+// The announcement that a word holds.
+pub fn read_announcement(word: u64) -> Announcement
+    ensures { λ r. ⌜ r ≡ announcementOf word ⌝ }
+{
+    let kind = word / KIND_PLACE % KIND_SIZE;
+    let payload = (word / PAYLOAD_PLACE % PAYLOAD_SIZE) as u16;
+    match kind {
+        1 => Announcement::Operation(payload),
+        2 => Announcement::Response(payload),
+        _ => Announcement::Empty,
+    }
+}

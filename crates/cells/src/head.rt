@@ -1,0 +1,52 @@
+// The head: a state and, while a response waits to be handed over, its holder.
+use crate::layout::HOLDER_PLACE;
+use crate::layout::HOLDER_SIZE;
+use crate::layout::RESPONSE_PLACE;
+use crate::layout::RESPONSE_SIZE;
+use crate::layout::STATE_PLACE;
+use crate::layout::STATE_SIZE;
+ghost use mathlib.Core.Path.{_≡_};
+ghost use Rattle.cells.specs.Layout.{headWord, headOf};
+
+pub enum Head {
+    // No task holds a response.
+    Free { state: u16 },
+    // The response of a task waits to be handed over to it.
+    Held { state: u16, task: u8, response: u16 },
+}
+
+// The word of a head with these marks.
+pub fn head_word(head: Head, marks: u8) -> u64
+    ensures { λ r. ⌜ r ≡ headWord head marks ⌝ }
+{
+    match head {
+        Head::Free { state } => marks as u64 + state as u64 * STATE_PLACE,
+        Head::Held {
+            state,
+            task,
+            response,
+        } => {
+            marks as u64
+                + state as u64 * STATE_PLACE
+                + response as u64 * RESPONSE_PLACE
+                + (task as u64 + 1) * HOLDER_PLACE
+        }
+    }
+}
+
+// The head that a word holds.
+pub fn read_head(word: u64) -> Head
+    ensures { λ r. ⌜ r ≡ headOf word ⌝ }
+{
+    let state = (word / STATE_PLACE % STATE_SIZE) as u16;
+    let response = (word / RESPONSE_PLACE % RESPONSE_SIZE) as u16;
+    let holder = word / HOLDER_PLACE % HOLDER_SIZE;
+    if holder == 0 {
+        return Head::Free { state };
+    }
+    Head::Held {
+        state,
+        task: (holder - 1) as u8,
+        response,
+    }
+}

@@ -1,0 +1,32 @@
+// The layout of the cells by place values: how many values each field holds, and where it starts.
+pub const MARK_COUNT: usize = 8;
+
+pub const MARKS_SIZE: u64 = 256;
+
+pub const STATE_SIZE: u64 = 256;
+
+pub const RESPONSE_SIZE: u64 = 256;
+
+pub const HOLDER_SIZE: u64 = 16;
+
+pub const KIND_SIZE: u64 = 4;
+
+pub const GAP_SIZE: u64 = 64;
+
+pub const PAYLOAD_SIZE: u64 = 256;
+
+pub const STATE_PLACE: u64 = MARKS_SIZE;
+
+pub const RESPONSE_PLACE: u64 = STATE_PLACE * STATE_SIZE;
+
+pub const HOLDER_PLACE: u64 = RESPONSE_PLACE * RESPONSE_SIZE;
+
+pub const HEAD_SIZE: u64 = HOLDER_PLACE * HOLDER_SIZE;
+
+pub const KIND_PLACE: u64 = MARKS_SIZE;
+
+pub const GAP_PLACE: u64 = KIND_PLACE * KIND_SIZE;
+
+pub const PAYLOAD_PLACE: u64 = GAP_PLACE * GAP_SIZE;
+
+pub const ANNOUNCEMENT_SIZE: u64 = PAYLOAD_PLACE * PAYLOAD_SIZE;
