@@ -1,3 +1,4 @@
 pub mod Phase
 pub mod Record
 pub mod Step
+pub mod Call

@@ -21,8 +21,8 @@ use Rattle.stepping.specs.declared.access.Found.{Found}
 use Rattle.stepping.specs.declared.access.Found.the-variants.{Word, Stored, Swapped, Unswapped}
 use Rattle.stepping.specs.declared.access.Next.{Next}
 use Rattle.stepping.specs.declared.access.Next.the-variants.{Go, Turn, End}
-use Rattle.stepping.specs.declared.access.Progress.{Progress}
-use Rattle.stepping.specs.declared.access.Progress.the-variants.{Running, Ended}
+use Rattle.stepping.specs.declared.access.Answer.{Answer}
+use Rattle.stepping.specs.declared.access.Answer.the-variants.{Running, Ended}
 use Rattle.stepping.specs.Phase.{phaseNumber}
 use Rattle.stepping.specs.Record.{idleTask}
 
@@ -259,7 +259,7 @@ advanceOf n t Turn = record { head = 0; announcement = 0; payload = 0; steps = t
 advanceOf n t (End r) = idleTask (t .priority)
 
 -- What an accepted step answers; the count takes in this step.
-abbrev pub progressOf : Task → Next → Progress
-progressOf t (Go f v h a) = Running
-progressOf t Turn = Running
-progressOf t (End r) = Ended r (t .steps + 1)
+abbrev pub answerOf : Task → Next → Answer
+answerOf t (Go f v h a) = Running
+answerOf t Turn = Running
+answerOf t (End r) = Ended r (t .steps + 1)
