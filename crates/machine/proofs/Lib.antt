@@ -1,0 +1,10 @@
+pub mod Update
+pub mod Effect
+pub mod Branch
+pub mod Branches
+pub mod Moved
+pub mod Lists
+pub mod Replay
+pub mod Kept
+pub mod Agreement
+pub mod Linearization

@@ -1,0 +1,11 @@
+pub mod Marks
+pub mod Object
+pub mod Memory
+pub mod Machine
+pub mod Kind
+pub mod Run
+pub mod Book
+pub mod History
+pub mod Keeping
+pub mod Invariant
+pub mod Potential

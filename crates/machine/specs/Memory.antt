@@ -1,0 +1,68 @@
+-- The cells: a head, and an announcement for each task. A cell is a value with marks.
+use mathlib.Core.Path.{_≡_, ap}
+use Prim.Native.Nat.{ℕ}
+use native.Mathlib.Decide.{ℕ-discrete}
+
+-- The head's value: a state, with the task whose operation was applied and its outcome until they are cleared.
+pub data HeadValue : Type 0 where
+  Free : (state : ℕ) → HeadValue
+  Held : (state holder outcome : ℕ) → HeadValue
+  deriving Discrete as HeadValue-discrete
+
+-- The content of an announcement: nothing, an operation that waits, or the response to it.
+pub data Content : Type 0 where
+  Empty : Content
+  Op : (operation : ℕ) → Content
+  Resp : (response : ℕ) → Content
+  deriving Discrete as Content-discrete
+
+-- A cell: a value and, as a number, the set of the tasks that are linked to it.
+pub record Cell (A : Type 0) : Type 0 where
+  pub value : A
+  pub marks : ℕ
+
+pub record Memory : Type 0 where
+  pub head : Cell HeadValue
+  pub announcement : ℕ → Cell Content
+
+-- The state in the head.
+abbrev pub stateOf : HeadValue → ℕ
+stateOf (Free q) = q
+stateOf (Held q j r) = q
+
+-- The outcome in the head, 0 with no holder.
+abbrev pub outcomeOf : HeadValue → ℕ
+outcomeOf (Free q) = 0
+outcomeOf (Held q j r) = r
+
+-- A cell with no mark.
+abbrev pub unmarked : {A : Type 0} → A → Cell A
+unmarked v = record { value = v; marks = 0 }
+
+-- The image of a state: the head holds the state alone, every announcement is empty, and nobody is linked.
+abbrev pub image : ℕ → Memory
+image q = record { head = unmarked (Free q); announcement = λ _. unmarked Empty }
+
+-- The first of two by a decision.
+abbrev pub either : {A P : Type 0} → Dec P → A → A → A
+either (yes _) a b = a
+either (no _) a b = b
+
+-- The function f with x at j.
+unfoldable pub update : {A : Type 0} → (ℕ → A) → ℕ → A → ℕ → A
+update f j x k = either (ℕ-discrete j k) x (f k)
+
+-- Equality of cells is decided: this is what a compare-and-swap tests.
+pub cell-dec : {A : Type 0} → ((x y : A) → Dec (x ≡ y)) → (a b : Cell A) → Dec (a ≡ b)
+cell-dec dec a b = go (dec (a .value) (b .value)) (ℕ-discrete (a .marks) (b .marks))
+  where
+    go : Dec (a .value ≡ b .value) → Dec (a .marks ≡ b .marks) → Dec (a ≡ b)
+    go (yes e) (yes f) = yes (λ i. record { value = e i; marks = f i })
+    go (yes e) (no n) = no (λ f. n (ap (λ x. x .marks) f))
+    go (no n) d = no (λ f. n (ap (λ x. x .value) f))
+
+abbrev pub head-dec : (a b : Cell HeadValue) → Dec (a ≡ b)
+head-dec a b = cell-dec (HeadValue-discrete ℕ-discrete) a b
+
+abbrev pub announcement-dec : (a b : Cell Content) → Dec (a ≡ b)
+announcement-dec a b = cell-dec (Content-discrete ℕ-discrete) a b
