@@ -10,18 +10,13 @@ use Rattle.cells.specs.Layout.{markOf}
 use borrow.Author.Needs.{needs}
 use Rattle.cells.proofs.marks.mark_of.Statement.{statement}
 use Rattle.cells.proofs.marks.mark_of.Tie as tie
-use Rattle.cells.proofs.marks.mark_of.Reads as reads
-use Rattle.cells.proofs.marks.mark_of.Lts as lts
 
--- src/marks.rt:31:16
 mul-result : tie.Need-mul-result
 mul-result c = search needs
 
--- src/marks.rt:31:16
 array-read-result : tie.Need-array-read-result
 array-read-result c = search needs
 
--- src/marks.rt:31:9
 -- The table has the powers of 2.
 places : List ℕ
 places = 1 ∷ 2 ∷ 4 ∷ 8 ∷ 16 ∷ 32 ∷ 64 ∷ 128 ∷ []
@@ -33,7 +28,6 @@ returns : tie.Need-returns
 unfolding markOf places power
 returns c = simp (lt-ltb _ _ (c .if1 .taken)) (eqb-true (getD places (c .before .args .task) 0) (2 ^ c .before .args .task) (holds-at 8 power refl (c .before .args .task) (c .if1 .taken)))
 
--- src/marks.rt:27:1
 returns-2 : tie.Need-returns-2
 unfolding markOf
 returns-2 c = simp (le-ltb _ _ (c .if1 .left))
