@@ -8,4 +8,5 @@ pub mod Book
 pub mod History
 pub mod Keeping
 pub mod Invariant
+pub mod Form
 pub mod Potential
