@@ -3,3 +3,4 @@ pub mod Words
 pub mod Records
 pub mod Accesses
 pub mod Plans
+pub mod Nexts
