@@ -4,3 +4,4 @@ pub mod Records
 pub mod Accesses
 pub mod Plans
 pub mod Nexts
+pub mod Simulation

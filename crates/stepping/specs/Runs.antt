@@ -1,7 +1,7 @@
 -- Runs of the calls on cells and records, with their histories.
 use mathlib.Core.List.{List, [], _∷_}
 use Prim.Native.Nat.{ℕ}
-use Rattle.machine.specs.Run.{Config, Call, Begin, Step, Answer, Event}
+use Rattle.machine.specs.Run.{Config, Call, Begin, Step, Answer, Served, Event}
 use Rattle.stepping.specs.declared.record.Task.{Task}
 use Rattle.stepping.specs.Call.{beginOf, stepOf}
 use Rattle.stepping.specs.Encoding.{encodeCells, encodeRow, beginAnswer, stepAnswer}
@@ -38,3 +38,7 @@ historyOf file (x ∷ xs) s = record { call = x; answer = serveOf file x s .answ
 -- The cells and the row of a configuration of n tasks.
 abbrev pub encodeConfig : ℕ → Config → Store
 encodeConfig n c = record { cells = encodeCells n (c .memory); row = encodeRow n (c .task) }
+
+-- What a call leaves of a configuration, and its answer.
+abbrev pub encodeServed : ℕ → Served → Outcome
+encodeServed n r = record { store = encodeConfig n (r .config); answer = r .answer }
