@@ -21,16 +21,18 @@ use Rattle.machine.specs.Memory.{Memory, update}
 use Rattle.machine.specs.Machine as machine
 use Rattle.machine.specs.Machine.{plan, result, perform, advance}
 use Rattle.machine.specs.Kind.{kind, off}
-use Rattle.machine.specs.Run.{Config, Call, Begin, Step, Event, firstPhase, unserved, outcomeOfStep, stepped, step, begin, serve, run, history}
+use Rattle.machine.specs.Run.{Config, Call, Begin, Step, Event, firstPhase, unserved, outcomeOfStep, stepped, step, begun, begin, serve, run, history}
 use Rattle.machine.specs.Form.{TaskFormed, Formed}
 use Rattle.stepping.specs.declared.record.Task.{Task}
 use Rattle.stepping.specs.declared.phase.Phase.the-variants as phase
 use Rattle.stepping.specs.declared.access.Next.{Next}
+use Rattle.stepping.specs.declared.call.Begin as declared
+use Rattle.stepping.specs.declared.call.BeginAnswer.the-variants as opening
 use Rattle.stepping.specs.declared.call.Admitted.the-variants as admitted
 use Rattle.stepping.specs.Phase.{phaseNumber}
 use Rattle.stepping.specs.Record.{idleTask, readRecord}
 use Rattle.stepping.specs.Step.{nextOf, advanceOf, answerOf}
-use Rattle.stepping.specs.Call.{admitOf, Stepped, refuseStep, stepFrom, stepTask, stepOf, begunTask, refuseBegin, beginTask, beginOf, taskAt}
+use Rattle.stepping.specs.Call.{admitOf, Stepped, refuseStep, stepFrom, stepTask, stepOf, begunTask, refuseBegin, beginFrom, beginTask, beginOf, taskAt}
 use Rattle.stepping.specs.Encoding.{ObjectTable, objectOf, encodeCells, kept, encodeTask, encodeRow, stepAnswer, beginAnswer}
 use Rattle.stepping.specs.Runs.{Store, Outcome, serveOf, runOf, historyOf, encodeConfig, encodeServed}
 use Rattle.stepping.proofs.Tables.{tabulate-length, tabulate-at, tabulate-set}
@@ -47,6 +49,11 @@ ceiling n = 1000 * (n * n * n)
 pub record InRange (b : Object) (n : ℕ) (c : Config) : Type 0 where
   pub formed : Formed b n c
   pub timely : (i : ℕ) → i < n → off (kind (c .task i .phase)) ≡ false → c .task i .steps < ceiling n
+
+-- The record of a task that has begun, by whether its operation is changing.
+begun-encoded : (o p : ℕ) (change : Bool) → _≡_ {A = Task} (record { head = 0; announcement = 0; payload = 0; steps = 0; operation = o; priority = p; phase = cond change (phaseNumber phase.Announce) (phaseNumber phase.ReadOnly) }) (encodeTask (record { phase = firstPhase change; operation = o; priority = p; steps = 0 }))
+begun-encoded o p true = refl
+begun-encoded o p false = refl
 
 module _ (file : List ℕ) (shape : Shape) (table : ObjectTable file shape) (n : ℕ) (some : 1 ≤ n) (most : n ≤ marksWidth) where
   -- The tests that all calls share are passed.
@@ -117,3 +124,66 @@ module _ (file : List ℕ) (shape : Shape) (table : ObjectTable file shape) (n :
         by false e d g = rw e (step-unknown e)
         by true e true g = rw (e, g) (step-idle (ltb-true i n e) g)
         by true e false g = rw (e, g) (step-pending (ltb-true i n e) g)
+
+    -- The same for a call of begin with operation o.
+    module _ (o : ℕ) where
+      begin-task : (t : Task) → beginTask file n i o t ≡ cond (ltb i n) (cond (ltb o (shape .operations)) (cond (operationInRange file shape o) (beginFrom file shape o t (readRecord shape n (ceiling n) t)) (refuseBegin t cause.Entry)) (refuseBegin t cause.Operation)) (refuseBegin t cause.Task)
+      unfolding beginTask
+      begin-task t = rw admits
+
+      begin-store : (out : declared.Begin) → beginTask file n i o (taskAt (encodeRow n (c .task)) i) ≡ out → serveOf file (Begin i o) (encodeConfig n c) ≡ record { store = record { cells = encodeCells n (c .memory); row = set (encodeRow n (c .task)) i (out .task) }; answer = beginAnswer (out .answer) }
+      unfolding beginOf
+      begin-store out e = rw (row-length, e)
+
+      begin-refused : (reason : Refusal) → beginTask file n i o (taskAt (encodeRow n (c .task)) i) ≡ refuseBegin (taskAt (encodeRow n (c .task)) i) reason → serveOf file (Begin i o) (encodeConfig n c) ≡ encodeServed n (unserved c reason)
+      begin-refused reason e = begin-store (refuseBegin (taskAt (encodeRow n (c .task)) i) reason) e ∙ rw (set-getD (encodeRow n (c .task)) i (idleTask 0))
+
+      begin-unknown : ltb i n ≡ false → serveOf file (Begin i o) (encodeConfig n c) ≡ encodeServed n (unserved c cause.Task)
+      begin-unknown e = begin-refused cause.Task (begin-task (taskAt (encodeRow n (c .task)) i) ∙ rw e)
+
+      begin-operation : i < n → ltb o (shape .operations) ≡ false → serveOf file (Begin i o) (encodeConfig n c) ≡ encodeServed n (unserved c cause.Operation)
+      begin-operation below e = begin-refused cause.Operation (begin-task (taskAt (encodeRow n (c .task)) i) ∙ rw (lt-ltb i n below, e))
+
+      module _ (below : i < n) (known : o < shape .operations) where
+        begin-known : (t : Task) → beginTask file n i o t ≡ beginFrom file shape o t (readRecord shape n (ceiling n) t)
+        begin-known t = begin-task t ∙ rw (lt-ltb i n below, lt-ltb o (shape .operations) known, accepted-operation file shape (table .accepted) o known)
+
+        begin-pending : off (kind (c .task i .phase)) ≡ false → serveOf file (Begin i o) (encodeConfig n c) ≡ encodeServed n (unserved c cause.Pending)
+        begin-pending e =
+            let t = range .formed .task i below in
+            begin-refused cause.Pending
+            (rw (task-at below, begin-known (encodeTask (c .task i)), pending-read file shape table n some most (ceiling n) (c .task i) t e (range .timely i below e), pending-number file shape table n some most (c .task i) t e))
+
+        begin-idle : off (kind (c .task i .phase)) ≡ true → serveOf file (Begin i o) (encodeConfig n c) ≡ encodeServed n (begun (objectOf file shape table) i o c)
+        begin-idle e =
+            let t = range .formed .task i below in
+            let p = c .task i .priority in
+            begin-store (record { task = begunTask file shape o (idleTask p); answer = opening.Begun })
+            (rw (task-at below, idle-kept file shape table n some most (c .task i) t e, begin-known (idleTask p), idle-read file shape table n some most (ceiling n) p (t .priority)))
+            ∙ rw (begun-encoded o p (changing file shape o), tabulate-set encodeTask n (c .task) i (record { phase = firstPhase (changing file shape o); operation = o; priority = p; steps = 0 }) below)
+
+      -- A call of begin, whatever its numbers.
+      pub begin-simulates : serveOf file (Begin i o) (encodeConfig n c) ≡ encodeServed n (begin (objectOf file shape table) n i o c)
+      unfolding begin
+      begin-simulates = by (ltb i n) refl (ltb o (shape .operations)) refl (off (kind (c .task i .phase))) refl
+        where
+          by : (b : Bool) → ltb i n ≡ b → (k : Bool) → ltb o (shape .operations) ≡ k → (d : Bool) → off (kind (c .task i .phase)) ≡ d → serveOf file (Begin i o) (encodeConfig n c) ≡ encodeServed n (begin (objectOf file shape table) n i o c)
+          by false e k f d g = rw e (begin-unknown e)
+          by true e false f d g = rw (e, f) (begin-operation (ltb-true i n e) f)
+          by true e true f true g = rw (e, f, g) (begin-idle (ltb-true i n e) (ltb-true o (shape .operations) f) g)
+          by true e true f false g = rw (e, f, g) (begin-pending (ltb-true i n e) (ltb-true o (shape .operations) f) g)
+
+  -- ---- Lists of calls
+
+  pub serve-simulates : (x : Call) (c : Config) → InRange (objectOf file shape table) n c → serveOf file x (encodeConfig n c) ≡ encodeServed n (serve (objectOf file shape table) n x c)
+  serve-simulates (Begin i o) c r = begin-simulates c r i o
+  serve-simulates (Step i) c r = step-simulates c r i
+
+  -- From a configuration that no list of calls leads out of range.
+  pub run-simulates : (xs : List Call) (c : Config) → ((ys : List Call) → InRange (objectOf file shape table) n (run (objectOf file shape table) n ys c)) → runOf file xs (encodeConfig n c) ≡ encodeConfig n (run (objectOf file shape table) n xs c)
+  run-simulates [] c r = refl
+  run-simulates (x ∷ xs) c r = rw (serve-simulates x c (r [])) (run-simulates xs (serve (objectOf file shape table) n x c .config) (λ ys. r (x ∷ ys)))
+
+  pub history-simulates : (xs : List Call) (c : Config) → ((ys : List Call) → InRange (objectOf file shape table) n (run (objectOf file shape table) n ys c)) → historyOf file xs (encodeConfig n c) ≡ history (objectOf file shape table) n xs c
+  history-simulates [] c r = refl
+  history-simulates (x ∷ xs) c r = rw (serve-simulates x c (r [])) (ap (λ (es : List Event). record { call = x; answer = serve (objectOf file shape table) n x c .answer } ∷ es) (history-simulates xs (serve (objectOf file shape table) n x c .config) (λ ys. r (x ∷ ys))))
