@@ -5,3 +5,4 @@ pub mod Accesses
 pub mod Plans
 pub mod Nexts
 pub mod Simulation
+pub mod Starts

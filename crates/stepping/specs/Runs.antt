@@ -3,13 +3,17 @@ use mathlib.Core.List.{List, [], _∷_}
 use Prim.Native.Nat.{ℕ}
 use Rattle.machine.specs.Run.{Config, Call, Begin, Step, Answer, Served, Event}
 use Rattle.stepping.specs.declared.record.Task.{Task}
-use Rattle.stepping.specs.Call.{beginOf, stepOf}
+use Rattle.stepping.specs.Call.{startOf, beginOf, stepOf}
 use Rattle.stepping.specs.Encoding.{encodeCells, encodeRow, beginAnswer, stepAnswer}
 
 -- What the calls of a run hand on: the cells and the row.
 pub record Store : Type 0 where
   pub cells : List ℕ
   pub row : List Task
+
+-- What a call of start leaves.
+abbrev pub startStore : List ℕ → List ℕ → List Task → Store
+startStore file cells row = record { cells = startOf file cells row .cells; row = startOf file cells row .row }
 
 -- What a call leaves, and what it answers.
 pub record Outcome : Type 0 where
