@@ -1,6 +1,6 @@
 -- The potential of an operation: a bound of the own steps that it may still take, whatever the other tasks do.
 use mathlib.Core.Bool.{Bool, true, false, _||_, _&&_, not}
-use Prim.Native.Nat.{ℕ, zero, suc, _+_, _*_, _-_}
+use Prim.Native.Nat.{ℕ, zero, suc, _+_, _*_, _-_, _≤_, _<_}
 use native.Mathlib.Decide.{ℕ-discrete, decLe}
 use Rattle.machine.specs.Memory.{HeadValue, Free, Held, Content, Empty, Op, Resp, Cell, Memory, either, head-dec, announcement-dec}
 use Rattle.machine.specs.Machine.{Phase, Idle, ReadOnly, Announce, Poll, LoadHead, LinkHead, LoadPriority, LoadOwn, Apply, ReloadApply, LoadHelped, LinkHelped, Validate, HandOver, ReloadHandOver, Release, ReloadRelease, ClearHead, ReloadClear, LoadExit, LinkExit, ClearExit, ReleaseExit, Retract, Task, decided, pick}
@@ -221,15 +221,16 @@ counts (Approaching j) = false
 counts (Marking j) = true
 counts (Finishing j) = true
 
--- 2 while task t waits or holds the head, unless the task is one that works for this holder with its mark in the head.
-abbrev pub owed : (holder waits marked works : Bool) → ℕ
-owed holder waits marked works = pick ((waits || holder) && not (works && (holder && marked))) 2 0
+-- What is owed to task t: 2 while it waits or holds the head.
+abbrev pub owed : Memory → ℕ → ℕ
+owed m t = pick (waiting (content m t) || holds t (headValue m)) 2 0
 
--- How often task x can still change the announcement of t while a mark of p stands there.
+-- How often task x can still change the announcement of t while a mark of p stands there. One that works for the holder
+-- with its mark in the head owes nothing more.
 abbrev pub owes : Memory → (x t : ℕ) → Work → ℕ
 owes m x t w =
     pick (approaches t w) 2 (one (inAnnouncement m x t))
-    + owed (holds t (headValue m)) (waiting (content m t)) (inHead m x) (worksFor t w)
+    + pick (worksFor t w && (holds t (headValue m) && inHead m x)) 0 (owed m t)
 
 -- The part of the head: due while the own mark stands in it or the task holds it.
 abbrev pub atHead : Memory → ℕ → Bool
@@ -283,3 +284,7 @@ potentialBy n c i (Retracting v) a = announcedPotential n c i a
 
 abbrev pub potential : ℕ → Config → ℕ → ℕ
 potential n c i = potentialBy n c i (kind (c .task i .phase)) (content (c .memory) i)
+
+-- The own steps that an operation has taken, and those that it may still take, are within the bound.
+abbrev pub Bounded : ℕ → Config → Type 0
+Bounded n c = (t : ℕ) → t < n → c .task t .steps + potential n c t ≤ bound n
