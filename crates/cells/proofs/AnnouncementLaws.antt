@@ -1,13 +1,13 @@
 -- Laws of the announcement: decode after encode and back, injectivity, forms.
 use mathlib.Core.Path.{_≡_, refl}
 use mathlib.Core.Bool.{Bool, true, false, _&&_}
-use mathlib.Core.List.{List, [], _∷_}
+use mathlib.Core.List.{[], _∷_}
 use Prim.Native.Nat.{ℕ, _/_, _%_, _^_, _<_}
 use borrow.Author.Tests.{eqb-true}
 use lib.Dec.{eqb, ltb}
 use lib.ListN.{getD}
-use Rattle.cells.specs.Field.{pack, unpack, Fit}
-use Rattle.cells.specs.Form.{inForm, payloadInForm, announcementFieldsInForm, announcementInForm, announcementInRange}
+use Rattle.cells.specs.Field.{unpack, Fit}
+use Rattle.cells.specs.Form.{payloadInForm, announcementFieldsInForm, announcementInForm, announcementInRange}
 use Rattle.cells.specs.Layout.{marksWidth, kindWidth, gapWidth, payloadWidth, marks, value, announcementWidths, announcementValues, announcementAt, announcementFrom, announcementWord, announcementOf}
 use Rattle.cells.specs.MarkLaws.{SetsBit}
 use Rattle.cells.specs.declared.announcement.Announcement.{Announcement}

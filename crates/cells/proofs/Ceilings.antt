@@ -1,15 +1,14 @@
 -- The table of ceilings follows the rule 1,000 × n × n × n.
-use mathlib.Core.Path.{_≡_, refl, ap, sym, _∙_}
-use mathlib.Core.Bool.{Bool, true, false, _&&_}
-use Prim.Native.Nat.{ℕ, suc, _+_, _*_, _-_, _<_, _≤_}
+use mathlib.Core.Path.{_≡_, refl}
+use mathlib.Core.Bool.{Bool, false, _&&_}
+use Prim.Native.Nat.{ℕ, suc, _*_, _-_, _≤_}
 use native.Mathlib.Omega.{arith}
-use borrow.Author.Tests.{eqb-true, le-leb, lt-leb}
+use borrow.Author.Tests.{eqb-true, le-leb}
 use lib.Dec.{eqb, leb}
 use lib.ListN.{getD}
-use Rattle.cells.proofs.Tests.{holds-at}
 use Rattle.cells.specs.Ceiling.{ceilings, ceilingOf, ceilingNumber}
-use Rattle.cells.specs.declared.ceiling.Ceiling.{Ceiling}
-use Rattle.cells.specs.declared.ceiling.Ceiling.the-variants.{Steps, Refused}
+use Rattle.cells.specs.declared.ceiling.Ceiling.the-variants.{Steps}
+use Rattle.cells.proofs.Tests.{holds-at}
 
 cubed : ℕ → Bool
 cubed k = eqb (getD ceilings k 0) (1000 * (suc k * suc k * suc k))

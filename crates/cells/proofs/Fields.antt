@@ -1,5 +1,5 @@
 -- Laws of fields, for every list of widths.
-use mathlib.Core.Path.{_≡_, refl, ap, ap₂, sym, _∙_}
+use mathlib.Core.Path.{_≡_, refl, ap, sym, _∙_}
 use mathlib.Core.List.{List, [], _∷_}
 use Prim.Native.Nat.{ℕ, _+_, _*_, _/_, _%_, _^_, _<_}
 use native.Mathlib.Nat.{add-mul-mod-self-left, mod-eq-of-lt, mod-lt, mod-add-div, add-mul-div-left, div-eq-of-lt, div-lt-iff-lt-mul, mul-comm, div-div-eq-div-mul, div-one}

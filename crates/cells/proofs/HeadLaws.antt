@@ -1,15 +1,15 @@
 -- Laws of the head: decode after encode and back, injectivity, forms.
-use mathlib.Core.Path.{_≡_, refl, ap, sym, _∙_}
+use mathlib.Core.Path.{_≡_, refl}
 use mathlib.Core.Bool.{Bool, true, false, _&&_, and-true}
-use mathlib.Core.List.{List, [], _∷_}
+use mathlib.Core.List.{[], _∷_}
 use Prim.Native.Nat.{ℕ, _+_, _-_, _/_, _%_, _^_, _<_}
 use native.Mathlib.Numerals.{add-one}
 use native.Mathlib.Omega.{arith}
 use borrow.Author.Tests.{eqb-true, eqb-false, ne-eqb}
 use lib.Dec.{eqb, ltb, leb}
 use lib.ListN.{getD}
-use Rattle.cells.specs.Field.{pack, unpack, Fit}
-use Rattle.cells.specs.Form.{holderBound, inForm, headFieldsInForm, headInForm, headInRange}
+use Rattle.cells.specs.Field.{unpack, Fit}
+use Rattle.cells.specs.Form.{holderBound, headFieldsInForm, headInForm, headInRange}
 use Rattle.cells.specs.Layout.{marksWidth, stateWidth, responseWidth, holderWidth, marks, value, headWidths, headValues, headAt, headFrom, headWord, headOf}
 use Rattle.cells.specs.MarkLaws.{SetsBit}
 use Rattle.cells.specs.Marks.{pick}

@@ -1,14 +1,14 @@
 -- The image of a state.
 use mathlib.Core.Path.{_≡_, refl, ap, sym, _∙_}
-use mathlib.Core.Bool.{Bool, true, false, _&&_}
+use mathlib.Core.Bool.{true}
 use mathlib.Core.List.{List, [], _∷_, _++_}
 use Prim.Native.Nat.{ℕ, zero, suc, _+_, _*_, _^_, _<_, _≤_}
 use native.Mathlib.Numerals.{add-one}
 use native.Mathlib.Omega.{arith}
+use borrow.Author.Tests.{lt-ltb}
 use lib.ListN.{length, take, set, replicate}
 use lib.Pow.{pow-pos}
 use lib.Seq.{take-suc-set, take-all}
-use borrow.Author.Tests.{lt-ltb}
 use Rattle.cells.specs.Field.{pack}
 use Rattle.cells.specs.Form.{headInForm, announcementsInForm, cellsInForm}
 use Rattle.cells.specs.Image.{image, imageIn}

@@ -2,15 +2,15 @@
 use mathlib.Core.Path.{_≡_, refl, ap, sym, _∙_}
 use mathlib.Core.Bool.{Bool, true, false}
 use mathlib.Core.Logic.{_≢_}
-use Prim.Native.Nat.{ℕ, zero, suc, _+_, _*_, _-_, _/_, _%_, _^_, _≤_, _<_}
+use Prim.Native.Nat.{ℕ, zero, suc, _+_, _*_, _/_, _%_, _^_, _≤_, _<_}
 use native.Mathlib.Nat.{pow-succ', div-div-eq-div-mul, div-eq-of-lt}
 use native.Mathlib.Numerals.{add-one}
 use native.Mathlib.Omega.{arith}
-use borrow.Author.Tests.{eqb-true, eqb-false, eq-eqb, ne-eqb, leb-true, leb-false}
+use borrow.Author.Tests.{eqb-true, eqb-false, leb-true, leb-false}
 use lib.Arith.{half-le}
 use lib.Dec.{eqb, leb}
 use lib.Pow.{mod-pow-add}
-use Rattle.cells.specs.Marks.{pick, none, has, add, remove}
+use Rattle.cells.specs.Marks.{none, has, add, remove}
 
 -- A number is its half twice and its lowest bit; what stands at index i + 1 stands at index i of the half.
 half-place : (i w : ℕ) → w / 2 ^ suc i ≡ w / 2 / 2 ^ i

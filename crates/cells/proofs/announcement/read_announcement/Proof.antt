@@ -1,9 +1,8 @@
-use Rattle.cells.proofs.Fields.{unpack-places}
-use native.Mathlib.Omega.{arith}
-use borrow.Author.Tests.{eq-eqb, ne-eqb}
+use borrow.Author.Tests.{ne-eqb}
+use borrow.Author.Needs.{needs}
 use Rattle.cells.specs.Field.{unpackAt}
 use Rattle.cells.specs.Layout.{announcementOf, announcementWidths}
-use borrow.Author.Needs.{needs}
+use Rattle.cells.proofs.Fields.{unpack-places}
 use Rattle.cells.proofs.announcement.read_announcement.Statement.{statement}
 use Rattle.cells.proofs.announcement.read_announcement.Tie as tie
 

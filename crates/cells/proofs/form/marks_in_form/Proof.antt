@@ -1,10 +1,10 @@
 use Prim.Native.Nat.{_%_, _^_, _<_}
 use native.Mathlib.Omega.{arith}
 use borrow.Author.Tests.{lt-ltb}
+use borrow.Author.Needs.{needs}
 use lib.Pow.{pow-mono}
 use Rattle.cells.specs.Form.{marksInForm}
 use Rattle.cells.specs.Layout.{markOf, marksWidth}
-use borrow.Author.Needs.{needs}
 use Rattle.cells.proofs.form.marks_in_form.Statement.{statement}
 use Rattle.cells.proofs.form.marks_in_form.Tie as tie
 

@@ -1,7 +1,7 @@
 use native.Mathlib.Omega.{arith}
+use borrow.Author.Needs.{needs}
 use Rattle.cells.specs.Field.{pack}
 use Rattle.cells.specs.Layout.{headWord}
-use borrow.Author.Needs.{needs}
 use Rattle.cells.proofs.head.head_word.Statement.{statement}
 use Rattle.cells.proofs.head.head_word.Tie as tie
 

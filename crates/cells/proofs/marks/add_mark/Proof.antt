@@ -1,9 +1,6 @@
-use mathlib.Core.Path.{_≡_, sym, _∙_}
-use mathlib.Core.Bool.{false}
 use native.Mathlib.Omega.{arith}
-use Rattle.cells.specs.Layout.{hasMark}
-use Rattle.cells.proofs.WordMarks.{add-by-place, add-mark-below}
 use borrow.Author.Needs.{needs}
+use Rattle.cells.proofs.WordMarks.{add-by-place, add-mark-below}
 use Rattle.cells.proofs.marks.add_mark.Statement.{statement}
 use Rattle.cells.proofs.marks.add_mark.Tie as tie
 

@@ -1,6 +1,6 @@
 use borrow.Author.Tests.{eq-eqb, ne-eqb}
-use Rattle.cells.proofs.WordMarks.{has-by-place}
 use borrow.Author.Needs.{needs}
+use Rattle.cells.proofs.WordMarks.{has-by-place}
 use Rattle.cells.proofs.marks.has_mark.Statement.{statement}
 use Rattle.cells.proofs.marks.has_mark.Tie as tie
 
