@@ -3,7 +3,6 @@ pub mod Effect
 pub mod Branch
 pub mod Branches
 pub mod Moved
-pub mod Calls
 pub mod Lists
 pub mod Replay
 pub mod Kept
