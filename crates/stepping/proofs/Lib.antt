@@ -6,3 +6,4 @@ pub mod Plans
 pub mod Nexts
 pub mod Simulation
 pub mod Starts
+pub mod Demands

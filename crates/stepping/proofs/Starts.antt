@@ -31,7 +31,7 @@ use Rattle.stepping.specs.Runs.{Store, startStore, encodeConfig}
 use Rattle.stepping.proofs.Tables.{tabulate-replicate}
 
 -- The cells and the row of the machine's start.
-start-cells : (n q : ℕ) → cells.image n q ≡ encodeCells n (image q)
+pub start-cells : (n q : ℕ) → cells.image n q ≡ encodeCells n (image q)
 start-cells n q = image-words n q ∙ rw (tabulate-replicate n)
 
 start-row : (n : ℕ) → idleRow n ≡ encodeRow n run.idleTask

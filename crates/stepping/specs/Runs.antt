@@ -2,6 +2,7 @@
 use mathlib.Core.List.{List, [], _∷_}
 use Prim.Native.Nat.{ℕ}
 use Rattle.machine.specs.Run.{Config, Call, Begin, Step, Answer, Served, Event}
+use Rattle.machine.specs.Demand.{Shown}
 use Rattle.stepping.specs.declared.record.Task.{Task}
 use Rattle.stepping.specs.Call.{startOf, beginOf, stepOf}
 use Rattle.stepping.specs.Encoding.{encodeCells, encodeRow, beginAnswer, stepAnswer}
@@ -38,6 +39,16 @@ runOf file (x ∷ xs) s = runOf file xs (serveOf file x s .store)
 abbrev pub historyOf : List ℕ → List Call → Store → List Event
 historyOf file [] s = []
 historyOf file (x ∷ xs) s = record { call = x; answer = serveOf file x s .answer } ∷ historyOf file xs (serveOf file x s .store)
+
+-- What a run shows that goes on from these cells and this row.
+abbrev pub shownBy : List ℕ → Store → Shown (List ℕ)
+shownBy file s = record {
+  answer = λ xs x. serveOf file x (runOf file xs s) .answer;
+  history = λ xs. historyOf file xs s;
+  cells = λ xs. runOf file xs s .cells;
+}
+
+-- ---- Configurations of the machine
 
 -- The cells and the row of a configuration of n tasks.
 abbrev pub encodeConfig : ℕ → Config → Store
