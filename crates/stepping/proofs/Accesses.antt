@@ -1,8 +1,8 @@
 -- An access to encoded cells: the word that it touches, what it gives back and what it leaves.
-use mathlib.Core.Path.{_≡_, refl, ap, sym, _∙_}
-use mathlib.Core.Bool.{Bool, true, false, cond}
+use mathlib.Core.Path.{_≡_, refl, ap, sym}
+use mathlib.Core.Bool.{true, cond}
 use mathlib.Core.List.{List, _∷_}
-use Prim.Native.Nat.{ℕ, suc, _+_, _<_, _≤_}
+use Prim.Native.Nat.{ℕ, _+_, _<_, _≤_}
 use native.Mathlib.Numerals.{add-one}
 use native.Mathlib.Omega.{arith}
 use borrow.Author.Tests.{ne-eqb}
@@ -20,7 +20,7 @@ use Rattle.stepping.specs.declared.access.Access.the-variants.{Read, Wri
 use Rattle.stepping.specs.declared.access.Found.{Found}
 use Rattle.stepping.specs.declared.access.Found.the-variants.{Word, Stored, Swapped, Unswapped}
 use Rattle.stepping.specs.Step.{touched, foundOf, performOf, cellInForm}
-use Rattle.stepping.specs.Encoding.{ObjectTable, objectOf, encodeHead, encodeAnnouncement, tabulate, encodeCells}
+use Rattle.stepping.specs.Encoding.{ObjectTable, objectOf, encodeHead, encodeAnnouncement, encodeCells}
 use Rattle.stepping.proofs.Tables.{tabulate-length, tabulate-at, tabulate-set}
 use Rattle.stepping.proofs.Words.{head-same, head-in-form, announcement-same, announcement-in-form}
 

@@ -1,9 +1,9 @@
 -- A run of the calls: after an accepted start, cells, row and answers are the machine's, whatever the calls, and so
 -- demands 2 and 3 are met.
-use mathlib.Core.Path.{_≡_, refl, ap, sym, subst, _∙_}
-use mathlib.Core.Bool.{true, false}
-use mathlib.Core.List.{List, []}
-use Prim.Native.Nat.{ℕ, _*_, _<_, _≤_}
+use mathlib.Core.Path.{_≡_, ap, sym, _∙_}
+use mathlib.Core.Bool.{true}
+use mathlib.Core.List.{List}
+use Prim.Native.Nat.{ℕ, _≤_}
 use native.Mathlib.Omega.{arith}
 use borrow.Author.Tests.{lt-ltb}
 use lib.ListN.{length}
@@ -21,7 +21,7 @@ use Rattle.machine.proofs.Demands.{machineShows, demand-ceiling}
 use Rattle.machine.proofs.Formed.{formed-run}
 use Rattle.machine.proofs.Update.{clash}
 use Rattle.machine.proofs.WaitFree.{bound-ceiling, pending-steps}
-use Rattle.machine.specs.Kind.{kind, off}
+use Rattle.machine.specs.Kind.{off}
 use Rattle.stepping.specs.declared.record.Task.{Task}
 use Rattle.stepping.specs.declared.call.StartAnswer.the-variants.{Started}
 use Rattle.stepping.specs.Call.{startOf}

@@ -1,22 +1,20 @@
 -- What a step leads to, from an encoded record and an encoded result.
-use mathlib.Core.Path.{_≡_, refl, ap, sym, _∙_}
+use mathlib.Core.Path.{_≡_, refl}
 use mathlib.Core.Bool.{Bool, true, false, cond}
 use mathlib.Core.List.{List}
-use Prim.Native.Nat.{ℕ, suc, _+_, _%_, _<_, _≤_}
+use Prim.Native.Nat.{ℕ, _<_, _≤_}
 use native.Mathlib.Decide.{ℕ-discrete}
 use native.Mathlib.Numerals.{add-one}
-use native.Mathlib.Omega.{arith}
 use borrow.Author.Tests.{eq-eqb, ne-eqb}
 use lib.Dec.{eqb}
 use Rattle.cells.specs.Marks.{has}
-use Rattle.cells.specs.Layout.{marksWidth, hasMark, addMark, headOf, announcementOf}
+use Rattle.cells.specs.Layout.{marksWidth, hasMark, announcementOf}
 use Rattle.table.specs.declared.Shape.{Shape}
-use Rattle.table.specs.Entries.{entryOf}
-use Rattle.machine.specs.Memory.{HeadValue, Free, Held, Content, Empty, Op, Resp, Cell, Memory, either, stateOf, head-dec, announcement-dec}
+use Rattle.machine.specs.Memory.{HeadValue, Free, Held, Content, Empty, Op, Resp, Cell, Memory, either, head-dec, announcement-dec}
 use Rattle.machine.specs.Machine as machine
 use Rattle.machine.specs.Machine.{Idle, ReadOnly, Announce, Poll, LoadHead, LinkHead, LoadPriority, LoadOwn, Apply, ReloadApply, LoadHelped, LinkHelped, Validate, HandOver, ReloadHandOver, Release, ReloadRelease, ClearHead, ReloadClear, LoadExit, LinkExit, ClearExit, ReleaseExit, Retract, decided, pick, linked, plan, result, after, advance}
 use Rattle.machine.specs.Run as run
-use Rattle.machine.specs.Form.{HeadFormed, AnnouncementFormed, MemoryFormed, PhaseFormed}
+use Rattle.machine.specs.Form.{MemoryFormed, PhaseFormed}
 use Rattle.stepping.specs.declared.access.Found.the-variants.{Swapped, Unswapped}
 use Rattle.stepping.specs.declared.access.Next.{Next}
 use Rattle.stepping.specs.declared.access.Next.the-variants.{Go, Turn, End}
@@ -83,17 +81,17 @@ same-task j i (yes e) = eq-eqb j i e
 same-task j i (no e) = ne-eqb j i e
 
 module _ (i v : ℕ) (h : Cell HeadValue) where
-  holder-next : (marked : Bool) {P : Type 0} (d : Dec P) (q j r : ℕ) → Encodes (pick marked (either d (machine.Go (ClearExit h v)) (machine.Go (ReleaseExit h v))) (either d (machine.Go (LinkExit h v)) (machine.Go (Retract v)))) (afterExit v (encodeHead h) marked (decided d))
-  holder-next true (yes e) q j r = goes (ClearExit h v)
-  holder-next true (no e) q j r = goes (ReleaseExit h v)
-  holder-next false (yes e) q j r = goes (LinkExit h v)
-  holder-next false (no e) q j r = goes (Retract v)
+  holder-next : (marked : Bool) {P : Type 0} (d : Dec P) → Encodes (pick marked (either d (machine.Go (ClearExit h v)) (machine.Go (ReleaseExit h v))) (either d (machine.Go (LinkExit h v)) (machine.Go (Retract v)))) (afterExit v (encodeHead h) marked (decided d))
+  holder-next true (yes e) = goes (ClearExit h v)
+  holder-next true (no e) = goes (ReleaseExit h v)
+  holder-next false (yes e) = goes (LinkExit h v)
+  holder-next false (no e) = goes (Retract v)
 
   exit-next : (marked : Bool) (u : HeadValue) → Encodes (machine.afterExit marked i v h u) (afterExit v (encodeHead h) marked (holderIs i (headIn u)))
   exit-next true (Free q) = goes (ReleaseExit h v)
   exit-next false (Free q) = goes (Retract v)
-  exit-next true (Held q j r) = rw (same-task j i (ℕ-discrete j i)) (holder-next true (ℕ-discrete j i) q j r)
-  exit-next false (Held q j r) = rw (same-task j i (ℕ-discrete j i)) (holder-next false (ℕ-discrete j i) q j r)
+  exit-next true (Held q j r) = rw (same-task j i (ℕ-discrete j i)) (holder-next true (ℕ-discrete j i))
+  exit-next false (Held q j r) = rw (same-task j i (ℕ-discrete j i)) (holder-next false (ℕ-discrete j i))
 
 module _ (file : List ℕ) (shape : Shape) (table : ObjectTable file shape) (n : ℕ) (most : n ≤ marksWidth) (m : Memory) (cells : MemoryFormed (objectOf file shape table) n m) (i p x s : ℕ) (below : i < n) where
   -- What the step leads to by the own mark in the head, or in the announcement of task j.
@@ -103,11 +101,12 @@ module _ (file : List ℕ) (shape : Shape) (table : ObjectTable file shape) (n :
   announcement-marked : (j : ℕ) {y y′ : machine.Next} {z z′ : Next} → Encodes y z → Encodes y′ z′ → Encodes (pick (has i (m .announcement j .marks)) y y′) (cond (hasMark i (encodeAnnouncement (m .announcement j))) z z′)
   announcement-marked j e e′ = rw (announcement-has file shape table n most (m .announcement j) (cells .announcement j) i below) (choice (has i (m .announcement j .marks)) e e′)
 
-  head-made : (h : Cell HeadValue) {y y′ : machine.Next} {z z′ : Next} → Encodes y z → Encodes y′ z′ → Encodes (pick (decided (head-dec (m .head) h)) y y′) (cond (madeIn (cond (decided (head-dec (m .head) h)) Swapped Unswapped)) z z′)
-  head-made h = swap (decided (head-dec (m .head) h))
+  -- Whether the swap is made that compares with a saved cell.
+  abbrev headMade : Cell HeadValue → Bool
+  headMade h = decided (head-dec (m .head) h)
 
-  announcement-made : (j : ℕ) (a : Cell Content) {y y′ : machine.Next} {z z′ : Next} → Encodes y z → Encodes y′ z′ → Encodes (pick (decided (announcement-dec (m .announcement j) a)) y y′) (cond (madeIn (cond (decided (announcement-dec (m .announcement j) a)) Swapped Unswapped)) z z′)
-  announcement-made j a = swap (decided (announcement-dec (m .announcement j) a))
+  abbrev announcementMade : ℕ → Cell Content → Bool
+  announcementMade j a = decided (announcement-dec (m .announcement j) a)
 
   own-read : (j : ℕ) → announcementOf (encodeAnnouncement (m .announcement j)) ≡ announcementIn (m .announcement j .value)
   own-read j = announcement-read file shape table n most (m .announcement j) (cells .announcement j)
@@ -119,22 +118,22 @@ module _ (file : List ℕ) (shape : Shape) (table : ObjectTable file shape) (n :
   next-simulates Announce r = goes Poll
   next-simulates Poll r = rw (own-read i) (poll-next (m .announcement i .value))
   next-simulates LoadHead r = goes (LinkHead (m .head))
-  next-simulates (LinkHead h) r = head-made h (rw (head-linked file shape table n most h r i below, head-read file shape table n most h r) (link-next (linked i h) (h .value))) (goes Poll)
+  next-simulates (LinkHead h) r = rw (head-linked file shape table n most h r i below, head-read file shape table n most h r) (swap (headMade h) (link-next (linked i h) (h .value)) (goes Poll))
   next-simulates (LoadPriority h) r = rw (own-read p) (priority-next h p (m .announcement p .value))
   next-simulates (LoadOwn h) r = rw (own-read i) (own-next h i (m .announcement i .value))
-  next-simulates (Apply h j o) r = head-made h turns (goes (ReloadApply h j o))
+  next-simulates (Apply h j o) r = swap (headMade h) turns (goes (ReloadApply h j o))
   next-simulates (ReloadApply h j o) r = head-marked (goes (Apply (m .head) j o)) (goes Poll)
   next-simulates (LoadHelped h j) r = goes (LinkHelped h j (m .announcement j))
-  next-simulates (LinkHelped h j a) r = announcement-made j a (rw (announcement-linked file shape table n most a (r .2) i below, announcement-read file shape table n most a (r .2)) (helped-next h j (linked i a) (a .value))) (goes Poll)
+  next-simulates (LinkHelped h j a) r = rw (announcement-linked file shape table n most a (r .2) i below, announcement-read file shape table n most a (r .2)) (swap (announcementMade j a) (helped-next h j (linked i a) (a .value)) (goes Poll))
   next-simulates (Validate h j a) r = head-marked (goes (HandOver h j a)) (goes (Release h j a))
-  next-simulates (HandOver h j a) r = announcement-made j a (goes (ClearHead h j)) (goes (ReloadHandOver h j a))
+  next-simulates (HandOver h j a) r = swap (announcementMade j a) (goes (ClearHead h j)) (goes (ReloadHandOver h j a))
   next-simulates (ReloadHandOver h j a) r = announcement-marked j (goes (HandOver h j (m .announcement j))) (goes (ClearHead h j))
-  next-simulates (Release h j a) r = announcement-made j a (goes (ClearHead h j)) (goes (ReloadRelease h j a))
+  next-simulates (Release h j a) r = swap (announcementMade j a) (goes (ClearHead h j)) (goes (ReloadRelease h j a))
   next-simulates (ReloadRelease h j a) r = announcement-marked j (goes (Release h j (m .announcement j))) (goes (ClearHead h j))
-  next-simulates (ClearHead h j) r = head-made h (goes Poll) (goes (ReloadClear h j))
+  next-simulates (ClearHead h j) r = swap (headMade h) (goes Poll) (goes (ReloadClear h j))
   next-simulates (ReloadClear h j) r = head-marked (goes (ClearHead (m .head) j)) (goes Poll)
   next-simulates (LoadExit v) r = rw (head-has file shape table n most (m .head) (cells .head) i below, head-read file shape table n most (m .head) (cells .head)) (exit-next i v (m .head) (has i (m .head .marks)) (m .head .value))
-  next-simulates (LinkExit h v) r = head-made h (rw (head-linked file shape table n most h (r .0) i below) (goes (ClearExit (linked i h) v))) (goes (LoadExit v))
-  next-simulates (ClearExit h v) r = head-made h (goes (Retract v)) (goes (LoadExit v))
-  next-simulates (ReleaseExit h v) r = head-made h (goes (Retract v)) (goes (LoadExit v))
+  next-simulates (LinkExit h v) r = rw (head-linked file shape table n most h (r .0) i below) (swap (headMade h) (goes (ClearExit (linked i h) v)) (goes (LoadExit v)))
+  next-simulates (ClearExit h v) r = swap (headMade h) (goes (Retract v)) (goes (LoadExit v))
+  next-simulates (ReleaseExit h v) r = swap (headMade h) (goes (Retract v)) (goes (LoadExit v))
   next-simulates (Retract v) r = rw (named-outcome file shape table n most v r) (ends v)

@@ -1,18 +1,17 @@
 -- The access of the next step, planned on an encoded record.
-use mathlib.Core.Path.{_≡_, refl, ap, sym, _∙_}
-use mathlib.Core.Bool.{Bool, true, false}
+use mathlib.Core.Path.{_≡_, refl, ap, _∙_}
+use mathlib.Core.Bool.{true, false}
 use mathlib.Core.List.{List}
-use Prim.Native.Nat.{ℕ, _+_, _%_, _<_, _≤_}
+use Prim.Native.Nat.{ℕ, _+_, _<_, _≤_}
 use native.Mathlib.Nat.{mod-eq-of-lt}
 use native.Mathlib.Omega.{arith}
 use borrow.Author.Tests.{ltb-true}
 use lib.ListN.{getD}
 use Rattle.cells.specs.Field.{pack}
-use Rattle.cells.specs.Layout.{marksWidth, headOf, headWord, announcementWord}
-use Rattle.cells.specs.declared.head.Head.the-variants as word
+use Rattle.cells.specs.Layout.{marksWidth, headOf, announcementWord}
 use Rattle.cells.specs.declared.announcement.Announcement.the-variants as content
 use Rattle.table.specs.declared.Shape.{Shape}
-use Rattle.table.specs.Entries.{entryOf, entryInRange}
+use Rattle.table.specs.Entries.{entryInRange}
 use Rattle.table.proofs.Accepted.{accepted-fitting, accepted-entry}
 use Rattle.machine.specs.Memory.{HeadValue, Free, Held, Cell, Memory, stateOf, outcomeOf}
 use Rattle.machine.specs.Machine as machine
@@ -21,7 +20,7 @@ use Rattle.machine.specs.Kind.{kind, off}
 use Rattle.machine.specs.Form.{HeadValueFormed, HeadFormed, MemoryFormed, PhaseFormed, OperationFormed}
 use Rattle.machine.proofs.Update.{clash}
 use Rattle.stepping.specs.declared.record.Task.{Task}
-use Rattle.stepping.specs.declared.access.Access.the-variants.{Read, Write, Swap}
+use Rattle.stepping.specs.declared.access.Access.the-variants.{Swap}
 use Rattle.stepping.specs.Step.{stateIn, responseIn, named, clearedWord, appliedWord, operationWord, responseWord, planOf, touched, usedInRange}
 use Rattle.stepping.specs.Encoding.{ObjectTable, objectOf, encodeHead, encodeAnnouncement, encodeCells, kept, encodeTask}
 use Rattle.stepping.proofs.Words.{state-in, response-in, head-read, head-linked, head-released, announcement-linked, announcement-released}

@@ -1,28 +1,26 @@
 -- Begin and step on encoded cells and records do what the machine's begin and step do on the configuration.
-use mathlib.Core.Path.{_≡_, refl, ap, sym, _∙_}
+use mathlib.Core.Path.{_≡_, refl, ap, _∙_}
 use mathlib.Core.Bool.{Bool, true, false, cond}
 use mathlib.Core.List.{List, [], _∷_}
 use Prim.Native.Nat.{ℕ, _+_, _*_, _<_, _≤_}
-use native.Mathlib.Omega.{arith}
 use borrow.Author.Tests.{ltb-true, lt-ltb, eq-eqb}
-use lib.Dec.{eqb, ltb}
-use lib.ListN.{length, getD, set}
+use lib.Dec.{ltb}
+use lib.ListN.{length, set}
 use lib.Seq.{set-getD}
 use Rattle.refusal.specs.declared.Refusal.{Refusal}
 use Rattle.refusal.specs.declared.Refusal.the-variants as cause
 use Rattle.cells.specs.Layout.{marksWidth}
-use Rattle.cells.specs.Ceiling.{ceilingOf}
 use Rattle.cells.proofs.Ceilings.{ceiling-cubed}
 use Rattle.table.specs.declared.Shape.{Shape}
 use Rattle.table.specs.Entries.{operationInRange, changing}
 use Rattle.table.proofs.Accepted.{accepted-parts, accepted-operation}
 use Rattle.machine.specs.Object.{Object}
-use Rattle.machine.specs.Memory.{Memory, update}
+use Rattle.machine.specs.Memory.{Memory}
 use Rattle.machine.specs.Machine as machine
 use Rattle.machine.specs.Machine.{plan, result, perform, advance}
 use Rattle.machine.specs.Kind.{kind, off}
 use Rattle.machine.specs.Run.{Config, Call, Begin, Step, Event, firstPhase, unserved, outcomeOfStep, stepped, step, begun, begin, serve, run, history}
-use Rattle.machine.specs.Form.{TaskFormed, Formed}
+use Rattle.machine.specs.Form.{Formed}
 use Rattle.stepping.specs.declared.record.Task.{Task}
 use Rattle.stepping.specs.declared.phase.Phase.the-variants as phase
 use Rattle.stepping.specs.declared.access.Next.{Next}
@@ -34,10 +32,10 @@ use Rattle.stepping.specs.Record.{idleTask, readRecord}
 use Rattle.stepping.specs.Step.{nextOf, advanceOf, answerOf}
 use Rattle.stepping.specs.Call.{admitOf, Stepped, refuseStep, stepFrom, stepTask, stepOf, begunTask, refuseBegin, beginFrom, beginTask, beginOf, taskAt}
 use Rattle.stepping.specs.Encoding.{ObjectTable, objectOf, encodeCells, kept, encodeTask, encodeRow, stepAnswer, beginAnswer}
-use Rattle.stepping.specs.Runs.{Store, Outcome, serveOf, runOf, historyOf, encodeConfig, encodeServed}
+use Rattle.stepping.specs.Runs.{serveOf, runOf, historyOf, encodeConfig, encodeServed}
 use Rattle.stepping.proofs.Tables.{tabulate-length, tabulate-at, tabulate-set}
 use Rattle.stepping.proofs.Records.{pending-read, pending-number, idle-kept, idle-read}
-use Rattle.stepping.proofs.Accesses.{encodeAccess, encodeResult, cells-length, touched-in-form, result-simulates, perform-simulates}
+use Rattle.stepping.proofs.Accesses.{encodeResult, cells-length, touched-in-form, result-simulates, perform-simulates}
 use Rattle.stepping.proofs.Plans.{plan-simulates, plan-formed, entry-in-range}
 use Rattle.stepping.proofs.Nexts.{next-simulates, advance-simulates, answer-simulates}
 

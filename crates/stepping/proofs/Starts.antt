@@ -1,14 +1,12 @@
 -- An accepted start: what was tested, and that cells and row are those of the machine's start.
-use mathlib.Core.Path.{_≡_, refl, ap, sym, _∙_}
+use mathlib.Core.Path.{_≡_, refl, ap, _∙_}
 use mathlib.Core.Bool.{Bool, true, false, _&&_}
 use mathlib.Core.List.{List, [], _∷_, _++_}
-use Prim.Native.Nat.{ℕ, zero, suc, _+_, _<_, _≤_}
+use Prim.Native.Nat.{ℕ, zero, suc, _+_, _≤_}
 use native.Mathlib.Omega.{arith}
-use borrow.Author.Tests.{leb-true, eqb-true, lt-ltb}
-use lib.Dec.{eqb, leb, ltb}
+use borrow.Author.Tests.{leb-true, eqb-true}
+use lib.Dec.{eqb, leb}
 use lib.ListN.{length}
-use Rattle.refusal.specs.declared.Refusal.{Refusal}
-use Rattle.refusal.specs.declared.Refusal.the-variants as cause
 use Rattle.cells.specs.Ceiling.{ceilingOf}
 use Rattle.cells.specs.Image as cells
 use Rattle.cells.specs.Layout.{marksWidth}
@@ -25,9 +23,9 @@ use Rattle.machine.specs.Run as run
 use Rattle.machine.specs.Run.{start}
 use Rattle.stepping.specs.declared.record.Task.{Task}
 use Rattle.stepping.specs.declared.call.StartAnswer.the-variants as answer
-use Rattle.stepping.specs.Call.{withCeiling, withRow, idleRow, startIn, startOf}
-use Rattle.stepping.specs.Encoding.{encodeAnnouncement, tabulate, encodeCells, encodeTask, encodeRow}
-use Rattle.stepping.specs.Runs.{Store, startStore, encodeConfig}
+use Rattle.stepping.specs.Call.{withRow, idleRow, startIn, startOf}
+use Rattle.stepping.specs.Encoding.{tabulate, encodeCells, encodeTask, encodeRow}
+use Rattle.stepping.specs.Runs.{startStore, encodeConfig}
 use Rattle.stepping.proofs.Tables.{tabulate-replicate}
 
 -- The cells and the row of the machine's start.

@@ -1,7 +1,7 @@
 -- The words of cells in range: what is read in them, their marks, their form, and that different cells have different words.
 use mathlib.Core.Path.{_≡_, refl, ap, sym, _∙_}
-use mathlib.Core.Bool.{Bool, true, false, _&&_}
-use mathlib.Core.List.{List, [], _∷_}
+use mathlib.Core.Bool.{true, _&&_}
+use mathlib.Core.List.{List}
 use Prim.Native.Nat.{ℕ, _+_, _*_, _^_, _<_, _≤_}
 use native.Mathlib.Nat.{pow-le-pow-right}
 use native.Mathlib.Omega.{arith}
@@ -14,11 +14,10 @@ use Rattle.cells.specs.Marks.{has, add, remove}
 use Rattle.cells.specs.MarkLaws.{SetsBit, adds, removes, set-below, has-low}
 use Rattle.cells.proofs.HeadLaws.{head-decode, head-marks, head-injective, head-form}
 use Rattle.cells.proofs.AnnouncementLaws.{announcement-decode, announcement-marks, announcement-injective, announcement-form}
-use Rattle.cells.proofs.WordMarks.{has-mark, add-mark, remove-mark, set-value, set-marks, same-word}
+use Rattle.cells.proofs.WordMarks.{has-mark, add-mark, remove-mark, set-value, set-marks}
 use Rattle.table.specs.declared.Shape.{Shape}
 use Rattle.table.proofs.Fitting.{Fitting}
 use Rattle.table.proofs.Accepted.{accepted-fitting}
-use Rattle.machine.specs.Object.{Object}
 use Rattle.machine.specs.Memory.{HeadValue, Free, Held, Content, Empty, Op, Resp, Cell, stateOf, outcomeOf, head-dec, announcement-dec}
 use Rattle.machine.specs.Machine.{linked, released, decided}
 use Rattle.machine.specs.Form.{CellFormed, HeadFormed, AnnouncementFormed, HeadValueFormed, ContentFormed}

@@ -19,7 +19,7 @@ use Rattle.machine.specs.Object.{Object}
 use Rattle.machine.specs.Memory.{HeadValue, Free, Held, Content, Empty, Op, Resp, Cell, Memory}
 use Rattle.machine.specs.Machine as machine
 use Rattle.machine.specs.Machine.{Idle, ReadOnly, Announce, Poll, LoadHead, LinkHead, LoadPriority, LoadOwn, Apply, ReloadApply, LoadHelped, LinkHelped, Validate, HandOver, ReloadHandOver, Release, ReloadRelease, ClearHead, ReloadClear, LoadExit, LinkExit, ClearExit, ReleaseExit, Retract}
-use Rattle.machine.specs.Run.{Config, Begun, Running, Ended, Refused}
+use Rattle.machine.specs.Run.{Begun, Running, Ended, Refused}
 use Rattle.machine.specs.Run as run
 use Rattle.stepping.specs.declared.record.Task.{Task}
 use Rattle.stepping.specs.declared.phase.Phase.{Phase}
