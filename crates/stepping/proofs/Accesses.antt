@@ -11,6 +11,7 @@ use lib.ListN.{length, getD, set}
 use lib.Seq.{set-getD}
 use Rattle.cells.specs.Layout.{marksWidth}
 use Rattle.table.specs.declared.Shape.{Shape}
+use Rattle.machine.specs.Object.{Object}
 use Rattle.machine.specs.Memory.{Cell, Content, Memory, either, update, head-dec, announcement-dec}
 use Rattle.machine.specs.Machine as machine
 use Rattle.machine.specs.Machine.{NoAccess, ReadHead, ReadAnnouncement, WriteAnnouncement, SwapHead, SwapAnnouncement, Nothing, HeadRead, AnnouncementRead, decided, result, perform}
@@ -39,6 +40,7 @@ encodeResult (HeadRead h) = Word (encodeHead h)
 encodeResult (AnnouncementRead a) = Word (encodeAnnouncement a)
 encodeResult (machine.Swapped made) = cond made Swapped Unswapped
 
+-- A choice by a test that says a decision.
 cond-either : {A B P : Type 0} (f : A → B) (d : Dec P) (x y : A) → cond (decided d) (f x) (f y) ≡ f (either d x y)
 cond-either f (yes e) x y = refl
 cond-either f (no e) x y = refl
@@ -56,17 +58,21 @@ module _ (n : ℕ) (m : Memory) where
     cell-set a = rw (add-one j) (ap (λ (l : List ℕ). encodeHead (m .head) ∷ l) (tabulate-set encodeAnnouncement n (m .announcement) j a below))
 
 module _ (file : List ℕ) (shape : Shape) (table : ObjectTable file shape) (n : ℕ) (most : n ≤ marksWidth) where
+  abbrev object : Object
+  object = objectOf file shape table
+
   -- The touched cell is one of the cells, and the word compared with is in range.
   abbrev pub AccessFormed : machine.Access → Type 0
   AccessFormed NoAccess = ⊥
   AccessFormed ReadHead = Unit {0}
   AccessFormed (ReadAnnouncement j) = j < n
   AccessFormed (WriteAnnouncement j a) = j < n
-  AccessFormed (SwapHead h g) = HeadFormed (objectOf file shape table) n h
-  AccessFormed (SwapAnnouncement j a c) = (j < n) × AnnouncementFormed (objectOf file shape table) n a
+  AccessFormed (SwapHead h g) = HeadFormed object n h
+  AccessFormed (SwapAnnouncement j a c) = (j < n) × AnnouncementFormed object n a
 
-  module _ (m : Memory) (ranged : MemoryFormed (objectOf file shape table) n m) where
-    announcement-swap : (j : ℕ) (a : Cell Content) → j < n → AnnouncementFormed (objectOf file shape table) n a → eqb (getD (encodeCells n m) (j + 1) 0) (encodeAnnouncement a) ≡ decided (announcement-dec (m .announcement j) a)
+  module _ (m : Memory) (ranged : MemoryFormed object n m) where
+    -- The announcement of task j: what a swap compares, and its form.
+    announcement-swap : (j : ℕ) (a : Cell Content) → j < n → AnnouncementFormed object n a → eqb (getD (encodeCells n m) (j + 1) 0) (encodeAnnouncement a) ≡ decided (announcement-dec (m .announcement j) a)
     announcement-swap j a below r = rw (cell-at n m j below) (announcement-same file shape table n most (m .announcement j) (ranged .announcement j) a r)
 
     announcement-touched : (j : ℕ) → j < n → cellInForm shape n (j + 1) (getD (encodeCells n m) (j + 1) 0) ≡ true

@@ -10,6 +10,7 @@ use lib.Dec.{eqb}
 use Rattle.cells.specs.Marks.{has}
 use Rattle.cells.specs.Layout.{marksWidth, hasMark, announcementOf}
 use Rattle.table.specs.declared.Shape.{Shape}
+use Rattle.machine.specs.Object.{Object}
 use Rattle.machine.specs.Memory.{HeadValue, Free, Held, Content, Empty, Op, Resp, Cell, Memory, either, head-dec, announcement-dec}
 use Rattle.machine.specs.Machine as machine
 use Rattle.machine.specs.Machine.{Idle, ReadOnly, Announce, Poll, LoadHead, LinkHead, LoadPriority, LoadOwn, Apply, ReloadApply, LoadHelped, LinkHelped, Validate, HandOver, ReloadHandOver, Release, ReloadRelease, ClearHead, ReloadClear, LoadExit, LinkExit, ClearExit, ReleaseExit, Retract, decided, pick, linked, plan, result, after, advance}
@@ -24,7 +25,7 @@ use Rattle.stepping.proofs.Words.{head-read, head-has, head-linked, ann
 use Rattle.stepping.proofs.Accesses.{encodeResult}
 use Rattle.stepping.proofs.Plans.{recordIn, head-state, named-outcome}
 
--- What a step leads to, and the same for a record.
+-- What a step leads to, and how a record says it.
 pub data Encodes : machine.Next → Next → Type 0 where
   goes : (f : machine.Phase) → Encodes (machine.Go f) (Go (kept f .phase) (kept f .payload) (kept f .head) (kept f .announcement))
   turns : Encodes (machine.Turn Poll) Turn
@@ -76,6 +77,7 @@ helped-next h j a Empty = goes (Release h j a)
 helped-next h j a (Op o) = goes (Validate h j a)
 helped-next h j a (Resp v) = goes (Release h j a)
 
+-- Whether the holder is the task itself.
 same-task : (j i : ℕ) (d : Dec (j ≡ i)) → eqb j i ≡ decided d
 same-task j i (yes e) = eq-eqb j i e
 same-task j i (no e) = ne-eqb j i e
@@ -93,13 +95,16 @@ module _ (i v : ℕ) (h : Cell HeadValue) where
   exit-next true (Held q j r) = rw (same-task j i (ℕ-discrete j i)) (holder-next true (ℕ-discrete j i))
   exit-next false (Held q j r) = rw (same-task j i (ℕ-discrete j i)) (holder-next false (ℕ-discrete j i))
 
-module _ (file : List ℕ) (shape : Shape) (table : ObjectTable file shape) (n : ℕ) (most : n ≤ marksWidth) (m : Memory) (cells : MemoryFormed (objectOf file shape table) n m) (i p x s : ℕ) (below : i < n) where
+module _ (file : List ℕ) (shape : Shape) (table : ObjectTable file shape) (n : ℕ) (most : n ≤ marksWidth) (m : Memory) (ranged : MemoryFormed (objectOf file shape table) n m) (i p x s : ℕ) (below : i < n) where
+  abbrev object : Object
+  object = objectOf file shape table
+
   -- What the step leads to by the own mark in the head, or in the announcement of task j.
   head-marked : {y y′ : machine.Next} {z z′ : Next} → Encodes y z → Encodes y′ z′ → Encodes (pick (has i (m .head .marks)) y y′) (cond (hasMark i (encodeHead (m .head))) z z′)
-  head-marked e e′ = rw (head-has file shape table n most (m .head) (cells .head) i below) (choice (has i (m .head .marks)) e e′)
+  head-marked e e′ = rw (head-has file shape table n most (m .head) (ranged .head) i below) (choice (has i (m .head .marks)) e e′)
 
   announcement-marked : (j : ℕ) {y y′ : machine.Next} {z z′ : Next} → Encodes y z → Encodes y′ z′ → Encodes (pick (has i (m .announcement j .marks)) y y′) (cond (hasMark i (encodeAnnouncement (m .announcement j))) z z′)
-  announcement-marked j e e′ = rw (announcement-has file shape table n most (m .announcement j) (cells .announcement j) i below) (choice (has i (m .announcement j .marks)) e e′)
+  announcement-marked j e e′ = rw (announcement-has file shape table n most (m .announcement j) (ranged .announcement j) i below) (choice (has i (m .announcement j .marks)) e e′)
 
   -- Whether the swap is made that compares with a saved cell.
   abbrev headMade : Cell HeadValue → Bool
@@ -108,19 +113,21 @@ module _ (file : List ℕ) (shape : Shape) (table : ObjectTable file shape) (n :
   abbrev announcementMade : ℕ → Cell Content → Bool
   announcementMade j a = decided (announcement-dec (m .announcement j) a)
 
-  own-read : (j : ℕ) → announcementOf (encodeAnnouncement (m .announcement j)) ≡ announcementIn (m .announcement j .value)
-  own-read j = announcement-read file shape table n most (m .announcement j) (cells .announcement j)
+  -- What an announcement says.
+  content-read : (j : ℕ) → announcementOf (encodeAnnouncement (m .announcement j)) ≡ announcementIn (m .announcement j .value)
+  content-read j = announcement-read file shape table n most (m .announcement j) (ranged .announcement j)
 
-  pub next-simulates : (f : machine.Phase) → PhaseFormed (objectOf file shape table) n f → Encodes (after (objectOf file shape table) i p x f (result (plan (objectOf file shape table) i p x f) m)) (nextOf file shape i (recordIn f p x s) (kept f .phase) (encodeResult (result (plan (objectOf file shape table) i p x f) m)))
+  -- What follows from the record and the result of its access.
+  pub next-simulates : (f : machine.Phase) → PhaseFormed object n f → Encodes (after object i p x f (result (plan object i p x f) m)) (nextOf file shape i (recordIn f p x s) (kept f .phase) (encodeResult (result (plan object i p x f) m)))
   unfolding plan result after nextOf
   next-simulates Idle r = goes Idle
-  next-simulates ReadOnly r = rw (head-state file shape table n most (m .head) (cells .head)) (ends _)
+  next-simulates ReadOnly r = rw (head-state file shape table n most (m .head) (ranged .head)) (ends _)
   next-simulates Announce r = goes Poll
-  next-simulates Poll r = rw (own-read i) (poll-next (m .announcement i .value))
+  next-simulates Poll r = rw (content-read i) (poll-next (m .announcement i .value))
   next-simulates LoadHead r = goes (LinkHead (m .head))
   next-simulates (LinkHead h) r = rw (head-linked file shape table n most h r i below, head-read file shape table n most h r) (swap (headMade h) (link-next (linked i h) (h .value)) (goes Poll))
-  next-simulates (LoadPriority h) r = rw (own-read p) (priority-next h p (m .announcement p .value))
-  next-simulates (LoadOwn h) r = rw (own-read i) (own-next h i (m .announcement i .value))
+  next-simulates (LoadPriority h) r = rw (content-read p) (priority-next h p (m .announcement p .value))
+  next-simulates (LoadOwn h) r = rw (content-read i) (own-next h i (m .announcement i .value))
   next-simulates (Apply h j o) r = swap (headMade h) turns (goes (ReloadApply h j o))
   next-simulates (ReloadApply h j o) r = head-marked (goes (Apply (m .head) j o)) (goes Poll)
   next-simulates (LoadHelped h j) r = goes (LinkHelped h j (m .announcement j))
@@ -132,7 +139,7 @@ module _ (file : List ℕ) (shape : Shape) (table : ObjectTable file shape) (n :
   next-simulates (ReloadRelease h j a) r = announcement-marked j (goes (Release h j (m .announcement j))) (goes (ClearHead h j))
   next-simulates (ClearHead h j) r = swap (headMade h) (goes Poll) (goes (ReloadClear h j))
   next-simulates (ReloadClear h j) r = head-marked (goes (ClearHead (m .head) j)) (goes Poll)
-  next-simulates (LoadExit v) r = rw (head-has file shape table n most (m .head) (cells .head) i below, head-read file shape table n most (m .head) (cells .head)) (exit-next i v (m .head) (has i (m .head .marks)) (m .head .value))
+  next-simulates (LoadExit v) r = rw (head-has file shape table n most (m .head) (ranged .head) i below, head-read file shape table n most (m .head) (ranged .head)) (exit-next i v (m .head) (has i (m .head .marks)) (m .head .value))
   next-simulates (LinkExit h v) r = rw (head-linked file shape table n most h (r .0) i below) (swap (headMade h) (goes (ClearExit (linked i h) v)) (goes (LoadExit v)))
   next-simulates (ClearExit h v) r = swap (headMade h) (goes (Retract v)) (goes (LoadExit v))
   next-simulates (ReleaseExit h v) r = swap (headMade h) (goes (Retract v)) (goes (LoadExit v))

@@ -2,22 +2,24 @@
 use mathlib.Core.Path.{_≡_, refl, ap, _∙_}
 use mathlib.Core.Bool.{true, false}
 use mathlib.Core.List.{List}
-use Prim.Native.Nat.{ℕ, _+_, _<_, _≤_}
+use Prim.Native.Nat.{ℕ, _+_, _^_, _<_, _≤_}
 use native.Mathlib.Nat.{mod-eq-of-lt}
 use native.Mathlib.Omega.{arith}
 use borrow.Author.Tests.{ltb-true}
 use lib.ListN.{getD}
 use Rattle.cells.specs.Field.{pack}
-use Rattle.cells.specs.Layout.{marksWidth, headOf, announcementWord}
+use Rattle.cells.specs.Layout.{marksWidth, responseWidth, headOf, announcementWord}
 use Rattle.cells.specs.declared.announcement.Announcement.the-variants as content
 use Rattle.table.specs.declared.Shape.{Shape}
 use Rattle.table.specs.Entries.{entryInRange}
 use Rattle.table.proofs.Accepted.{accepted-fitting, accepted-entry}
-use Rattle.machine.specs.Memory.{HeadValue, Free, Held, Cell, Memory, stateOf, outcomeOf}
+use Rattle.machine.specs.Object.{Object}
+use Rattle.machine.specs.Memory.{HeadValue, Cell, Memory, stateOf, outcomeOf}
 use Rattle.machine.specs.Machine as machine
 use Rattle.machine.specs.Machine.{Idle, ReadOnly, Announce, Poll, LoadHead, LinkHead, LoadPriority, LoadOwn, Apply, ReloadApply, LoadHelped, LinkHelped, Validate, HandOver, ReloadHandOver, Release, ReloadRelease, ClearHead, ReloadClear, LoadExit, LinkExit, ClearExit, ReleaseExit, Retract, plan}
 use Rattle.machine.specs.Kind.{kind, off}
-use Rattle.machine.specs.Form.{HeadValueFormed, HeadFormed, MemoryFormed, PhaseFormed, OperationFormed}
+use Rattle.machine.specs.Form.{HeadFormed, MemoryFormed, PhaseFormed, OperationFormed}
+use Rattle.machine.proofs.Formed.{state-good}
 use Rattle.machine.proofs.Update.{clash}
 use Rattle.stepping.specs.declared.record.Task.{Task}
 use Rattle.stepping.specs.declared.access.Access.the-variants.{Swap}
@@ -31,18 +33,18 @@ abbrev pub recordIn : machine.Phase → (priority operation steps : ℕ) → Tas
 recordIn f p x s = encodeTask (record { phase = f; operation = x; priority = p; steps = s })
 
 module _ (file : List ℕ) (shape : Shape) (table : ObjectTable file shape) (n : ℕ) (most : n ≤ marksWidth) where
+  abbrev object : Object
+  object = objectOf file shape table
+
   -- A payload in range names itself.
-  pub named-outcome : (v : ℕ) → v < 256 → named v ≡ v
+  pub named-outcome : (v : ℕ) → v < 2 ^ responseWidth → named v ≡ v
   named-outcome v l = mod-eq-of-lt (omega arith)
 
   pub named-operation : (o : ℕ) → o < shape .operations → named o ≡ o
   named-operation o l = mod-eq-of-lt (omega (arith, accepted-fitting file shape (table .accepted)))
 
-  state-good : (v : HeadValue) → HeadValueFormed (objectOf file shape table) n v → stateOf v < shape .states
-  state-good (Free q) f = ltb-true _ _ f
-  state-good (Held q j r) f = ltb-true _ _ (f .0)
-
-  module _ (h : Cell HeadValue) (ranged : HeadFormed (objectOf file shape table) n h) where
+  -- The words that a step makes of a saved head.
+  module _ (h : Cell HeadValue) (ranged : HeadFormed object n h) where
     pub head-state : stateIn (headOf (encodeHead h)) ≡ stateOf (h .value)
     head-state = ap stateIn (head-read file shape table n most h ranged) ∙ state-in (h .value)
 
@@ -51,13 +53,13 @@ module _ (file : List ℕ) (shape : Shape) (table : ObjectTable file shape) (n :
 
     -- The entry of the head's state is in range.
     head-entry : (o : ℕ) → o < shape .operations → entryInRange file shape (stateIn (headOf (encodeHead h))) o ≡ true
-    head-entry o l = rw head-state (accepted-entry file shape (table .accepted) (stateOf (h .value)) o (state-good (h .value) (ranged .value)) l)
+    head-entry o l = rw head-state (accepted-entry file shape (table .accepted) (stateOf (h .value)) o (ltb-true _ _ (state-good object n (h .value) (ranged .value))) l)
 
     cleared-word : clearedWord (encodeHead h) ≡ encodeHead (machine.cleared h)
     unfolding clearedWord
     cleared-word = rw head-state
 
-    applied-word : (j o : ℕ) → o < shape .operations → appliedWord file shape (encodeHead h) j (named o) ≡ encodeHead (machine.applied (objectOf file shape table) h j o)
+    applied-word : (j o : ℕ) → o < shape .operations → appliedWord file shape (encodeHead h) j (named o) ≡ encodeHead (machine.applied object h j o)
     unfolding appliedWord
     applied-word j o l = rw (head-state, named-operation o l)
 
@@ -66,7 +68,8 @@ module _ (file : List ℕ) (shape : Shape) (table : ObjectTable file shape) (n :
     response-word = rw head-response
 
   module _ (i p x s : ℕ) (below : i < n) where
-    pub plan-simulates : (f : machine.Phase) → PhaseFormed (objectOf file shape table) n f → planOf file shape i (recordIn f p x s) (kept f .phase) ≡ encodeAccess (plan (objectOf file shape table) i p x f)
+    -- The planned access.
+    pub plan-simulates : (f : machine.Phase) → PhaseFormed object n f → planOf file shape i (recordIn f p x s) (kept f .phase) ≡ encodeAccess (plan object i p x f)
     unfolding planOf plan operationWord announcementWord pack
     plan-simulates Idle r = refl
     plan-simulates ReadOnly r = refl
@@ -93,8 +96,8 @@ module _ (file : List ℕ) (shape : Shape) (table : ObjectTable file shape) (n :
     plan-simulates (ReleaseExit h v) r = ap (Swap 0 (encodeHead h)) (head-released file shape table n most h (r .0) i below)
     plan-simulates (Retract v) r = refl
 
-    -- The planned access is in range.
-    pub plan-formed : (f : machine.Phase) → off (kind f) ≡ false → p < n → PhaseFormed (objectOf file shape table) n f → AccessFormed file shape table n most (plan (objectOf file shape table) i p x f)
+    -- It is in range.
+    pub plan-formed : (f : machine.Phase) → off (kind f) ≡ false → p < n → PhaseFormed object n f → AccessFormed file shape table n most (plan object i p x f)
     unfolding plan
     plan-formed Idle e l r = clash refl e
     plan-formed ReadOnly e l r = tt
@@ -122,7 +125,7 @@ module _ (file : List ℕ) (shape : Shape) (table : ObjectTable file shape) (n :
     plan-formed (Retract v) e l r = below
 
     -- The one entry that the step uses is in range.
-    pub entry-in-range : (m : Memory) → MemoryFormed (objectOf file shape table) n m → (f : machine.Phase) → PhaseFormed (objectOf file shape table) n f → OperationFormed (objectOf file shape table) (kind f) x s → usedInRange file shape (recordIn f p x s) (getD (encodeCells n m) (touched (encodeAccess (plan (objectOf file shape table) i p x f))) 0) (kept f .phase) ≡ true
+    pub entry-in-range : (m : Memory) → MemoryFormed object n m → (f : machine.Phase) → PhaseFormed object n f → OperationFormed object (kind f) x s → usedInRange file shape (recordIn f p x s) (getD (encodeCells n m) (touched (encodeAccess (plan object i p x f))) 0) (kept f .phase) ≡ true
     unfolding plan
     entry-in-range m c Idle r w = refl
     entry-in-range m c ReadOnly r w = head-entry (m .head) (c .head) x (w .0)

@@ -12,6 +12,7 @@ use Rattle.cells.specs.Form.{headInForm, announcementInForm}
 use Rattle.cells.specs.Layout.{marksWidth, headWord, announcementWord}
 use Rattle.table.specs.declared.Shape.{Shape}
 use Rattle.table.proofs.Accepted.{accepted-fitting}
+use Rattle.machine.specs.Object.{Object}
 use Rattle.machine.specs.Memory.{HeadValue, Free, Content, Empty, Cell, unmarked}
 use Rattle.machine.specs.Machine as machine
 use Rattle.machine.specs.Machine.{Idle, ReadOnly, Announce, Poll, LoadHead, LinkHead, LoadPriority, LoadOwn, Apply, ReloadApply, LoadHelped, LinkHelped, Validate, HandOver, ReloadHandOver, Release, ReloadRelease, ClearHead, ReloadClear, LoadExit, LinkExit, ClearExit, ReleaseExit, Retract}
@@ -28,7 +29,7 @@ use Rattle.stepping.specs.Encoding.{ObjectTable, objectOf, encodeHead, e
 use Rattle.stepping.proofs.Words.{head-in-form, announcement-in-form}
 
 -- What holds at each of the first eight numbers.
-pub each-of-eight : (P : ℕ → Type 0) → P 0 → P 1 → P 2 → P 3 → P 4 → P 5 → P 6 → P 7 → (j : ℕ) → j < 8 → P j
+each-of-eight : (P : ℕ → Type 0) → P 0 → P 1 → P 2 → P 3 → P 4 → P 5 → P 6 → P 7 → (j : ℕ) → j < 8 → P j
 each-of-eight P a b c d e f g h zero l = a
 each-of-eight P a b c d e f g h (suc zero) l = b
 each-of-eight P a b c d e f g h (suc (suc zero)) l = c
@@ -52,16 +53,20 @@ record KeptFormed (shape : Shape) (n : ℕ) (k : Kept) : Type 0 where
   head : headInForm (shape .states) n (k .head) ≡ true
   announcement : announcementInForm (shape .operations) n (k .announcement) ≡ true
 
+-- A test under a condition.
 either-holds : (b : Bool) {t : Bool} → t ≡ true → cond b t true ≡ true
 either-holds true e = e
 either-holds false e = refl
 
 module _ (file : List ℕ) (shape : Shape) (table : ObjectTable file shape) (n : ℕ) (some : 1 ≤ n) (most : n ≤ marksWidth) where
+  abbrev object : Object
+  object = objectOf file shape table
+
   abbrev HeadRanged : Cell HeadValue → Type 0
-  HeadRanged h = HeadFormed (objectOf file shape table) n h
+  HeadRanged h = HeadFormed object n h
 
   abbrev AnnouncementRanged : Cell Content → Type 0
-  AnnouncementRanged a = AnnouncementFormed (objectOf file shape table) n a
+  AnnouncementRanged a = AnnouncementFormed object n a
 
   -- Nothing saved is the word 0, which is in form.
   no-head : headInForm (shape .states) n 0 ≡ true
@@ -110,7 +115,8 @@ module _ (file : List ℕ) (shape : Shape) (table : ObjectTable file shape) (n :
     helps : (h : Cell HeadValue) (j : ℕ) (a : Cell Content) → HeadRanged h × (j < n) × AnnouncementRanged a → KeptFormed shape n (keep (f j) 0 (encodeHead h) (encodeAnnouncement a))
     helps h j a p = works j (p .1) some-operation (head-in-form file shape table n most h (p .0)) (announcement-in-form file shape table n most a (p .2))
 
-  kept-formed : (f : machine.Phase) → off (kind f) ≡ false → PhaseFormed (objectOf file shape table) n f → KeptFormed shape n (kept f)
+  -- Every phase of a pending operation, with what it has saved in range.
+  kept-formed : (f : machine.Phase) → off (kind f) ≡ false → PhaseFormed object n f → KeptFormed shape n (kept f)
   unfolding phaseOf
   kept-formed Idle e p = clash refl e
   kept-formed ReadOnly e p = plain refl refl (omega arith) no-head
@@ -138,7 +144,8 @@ module _ (file : List ℕ) (shape : Shape) (table : ObjectTable file shape) (n :
   kept-formed (Release h j a) e p = helps 9 (omega arith) (λ j. refl) (each-of-eight (Read phase.Release) refl refl refl refl refl refl refl refl) h j a p
   kept-formed (ReloadRelease h j a) e p = helps 10 (omega arith) (λ j. refl) (each-of-eight (Read phase.ReloadRelease) refl refl refl refl refl refl refl refl) h j a p
 
-  operation-below : (k : Kind) (o s : ℕ) → off k ≡ false → OperationFormed (objectOf file shape table) k o s → o < shape .operations
+  -- A pending operation is one of the table's.
+  operation-below : (k : Kind) (o s : ℕ) → off k ≡ false → OperationFormed object k o s → o < shape .operations
   operation-below Off o s e w = clash refl e
   operation-below Reading o s e w = w .0
   operation-below Opening o s e w = w .0
@@ -147,20 +154,20 @@ module _ (file : List ℕ) (shape : Shape) (table : ObjectTable file shape) (n :
   operation-below (Retracting v) o s e w = w .0
 
   -- The record of a pending operation with its steps below the ceiling.
-  pub pending-read : (ceiling : ℕ) (t : machine.Task) → TaskFormed (objectOf file shape table) n t → off (kind (t .phase)) ≡ false → t .steps < ceiling → readRecord shape n ceiling (encodeTask t) ≡ Known (kept (t .phase) .phase)
+  pub pending-read : (ceiling : ℕ) (t : machine.Task) → TaskFormed object n t → off (kind (t .phase)) ≡ false → t .steps < ceiling → readRecord shape n ceiling (encodeTask t) ≡ Known (kept (t .phase) .phase)
   unfolding readRecord recordInForm pendingInForm payloadInForm
   pending-read ceiling t formed e timely =
       let k = kept-formed (t .phase) e (formed .phase) in
       simp (k .read, k .pending, k .names, lt-ltb _ _ (operation-below (kind (t .phase)) (t .operation) (t .steps) e (formed .operation)), lt-ltb _ _ (formed .priority), lt-ltb _ _ timely, k .payload, k .head, k .announcement)
 
-  pub pending-number : (t : machine.Task) → TaskFormed (objectOf file shape table) n t → off (kind (t .phase)) ≡ false → eqb (encodeTask t .phase) 0 ≡ false
+  pub pending-number : (t : machine.Task) → TaskFormed object n t → off (kind (t .phase)) ≡ false → eqb (encodeTask t .phase) 0 ≡ false
   pending-number t formed e = kept-formed (t .phase) e (formed .phase) .pending
 
   -- An idle task keeps its priority alone; its record is read back too.
-  pub idle-kept : (t : machine.Task) → TaskFormed (objectOf file shape table) n t → off (kind (t .phase)) ≡ true → encodeTask t ≡ idleTask (t .priority)
+  pub idle-kept : (t : machine.Task) → TaskFormed object n t → off (kind (t .phase)) ≡ true → encodeTask t ≡ idleTask (t .priority)
   idle-kept t formed e =
       let f : t .phase ≡ Idle = off-idle (t .phase) e in
-      let w : (t .operation ≡ 0) × (t .steps ≡ 0) = subst (λ (f : machine.Phase). OperationFormed (objectOf file shape table) (kind f) (t .operation) (t .steps)) f (formed .operation) in
+      let w : (t .operation ≡ 0) × (t .steps ≡ 0) = subst (λ (f : machine.Phase). OperationFormed object (kind f) (t .operation) (t .steps)) f (formed .operation) in
       rw (f, w .0, w .1)
 
   pub idle-read : (ceiling p : ℕ) → p < n → readRecord shape n ceiling (idleTask p) ≡ Known phase.Idle

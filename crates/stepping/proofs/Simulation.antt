@@ -54,6 +54,9 @@ begun-encoded o p true = refl
 begun-encoded o p false = refl
 
 module _ (file : List ℕ) (shape : Shape) (table : ObjectTable file shape) (n : ℕ) (some : 1 ≤ n) (most : n ≤ marksWidth) where
+  abbrev object : Object
+  object = objectOf file shape table
+
   -- The tests that all calls share are passed.
   admits : admitOf file n ≡ admitted.Accepted shape (ceiling n)
   unfolding admitOf
@@ -64,7 +67,8 @@ module _ (file : List ℕ) (shape : Shape) (table : ObjectTable file shape) (n :
   unfolding stepTask
   step-task m i t = rw (admits, eq-eqb (length (encodeCells n m)) (n + 1) (cells-length n m))
 
-  module _ (c : Config) (range : InRange (objectOf file shape table) n c) (i : ℕ) where
+  module _ (c : Config) (range : InRange object n c) (i : ℕ) where
+    -- The row has n records, and the record of task i is its encoding.
     row-length : length (encodeRow n (c .task)) ≡ n
     row-length = tabulate-length n (λ k. encodeTask (c .task k))
 
@@ -79,6 +83,7 @@ module _ (file : List ℕ) (shape : Shape) (table : ObjectTable file shape) (n :
     step-refused : (reason : Refusal) → stepTask file (encodeCells n (c .memory)) n i (taskAt (encodeRow n (c .task)) i) ≡ refuseStep (encodeCells n (c .memory)) (taskAt (encodeRow n (c .task)) i) reason → serveOf file (Step i) (encodeConfig n c) ≡ encodeServed n (unserved c reason)
     step-refused reason e = step-store (refuseStep (encodeCells n (c .memory)) (taskAt (encodeRow n (c .task)) i) reason) e ∙ rw (set-getD (encodeRow n (c .task)) i (idleTask 0))
 
+    -- By the task's number, and by whether it is idle.
     step-unknown : ltb i n ≡ false → serveOf file (Step i) (encodeConfig n c) ≡ encodeServed n (unserved c cause.Task)
     step-unknown e = step-refused cause.Task (step-task (c .memory) i (taskAt (encodeRow n (c .task)) i) ∙ rw e)
 
@@ -90,7 +95,7 @@ module _ (file : List ℕ) (shape : Shape) (table : ObjectTable file shape) (n :
 
     -- The access, and what follows for the record, of a pending operation's step.
     abbrev accessOf : machine.Access
-    accessOf = plan (objectOf file shape table) i (c .task i .priority) (c .task i .operation) (c .task i .phase)
+    accessOf = plan object i (c .task i .priority) (c .task i .operation) (c .task i .phase)
 
     abbrev nextIn : Next
     nextIn = nextOf file shape i (encodeTask (c .task i)) (kept (c .task i .phase) .phase) (encodeResult (result accessOf (c .memory)))
@@ -106,19 +111,19 @@ module _ (file : List ℕ) (shape : Shape) (table : ObjectTable file shape) (n :
         let a = plan-formed file shape table n most i p x s below f e (t .priority) (t .phase) in
         rw (step-task (c .memory) i (encodeTask (c .task i)), lt-ltb i n below, pending-read file shape table n some most (ceiling n) (c .task i) t e (range .timely i below e), pending-number file shape table n some most (c .task i) t e, plan-simulates file shape table n most i p x s below f (t .phase), touched-in-form file shape table n most (c .memory) m accessOf a, entry-in-range file shape table n most i p x s below (c .memory) m f (t .phase) (t .operation), result-simulates file shape table n most (c .memory) m accessOf a, perform-simulates file shape table n most (c .memory) m accessOf a)
 
-    step-pending : i < n → off (kind (c .task i .phase)) ≡ false → serveOf file (Step i) (encodeConfig n c) ≡ encodeServed n (stepped (objectOf file shape table) n i c)
+    step-pending : i < n → off (kind (c .task i .phase)) ≡ false → serveOf file (Step i) (encodeConfig n c) ≡ encodeServed n (stepped object n i c)
     step-pending below e =
         let t = range .formed .task i below in
         let next = next-simulates file shape table n most (c .memory) (range .formed .memory) i (c .task i .priority) (c .task i .operation) (c .task i .steps) below (c .task i .phase) (t .phase) in
         step-store (record { cells = encodeCells n (perform accessOf (c .memory)); task = advanceOf n (encodeTask (c .task i)) nextIn; answer = answerOf (encodeTask (c .task i)) nextIn }) (rw (task-at below) (step-served below e))
-        ∙ rw (advance-simulates n (c .task i) next, answer-simulates n (c .task i) next, tabulate-set encodeTask n (c .task) i (advance n (c .task i) (outcomeOfStep (objectOf file shape table) i c)) below)
+        ∙ rw (advance-simulates n (c .task i) next, answer-simulates n (c .task i) next, tabulate-set encodeTask n (c .task) i (advance n (c .task i) (outcomeOfStep object i c)) below)
 
     -- A step of task i, whatever its number.
-    pub step-simulates : serveOf file (Step i) (encodeConfig n c) ≡ encodeServed n (step (objectOf file shape table) n i c)
+    pub step-simulates : serveOf file (Step i) (encodeConfig n c) ≡ encodeServed n (step object n i c)
     unfolding step
     step-simulates = by (ltb i n) refl (off (kind (c .task i .phase))) refl
       where
-        by : (b : Bool) → ltb i n ≡ b → (d : Bool) → off (kind (c .task i .phase)) ≡ d → serveOf file (Step i) (encodeConfig n c) ≡ encodeServed n (step (objectOf file shape table) n i c)
+        by : (b : Bool) → ltb i n ≡ b → (d : Bool) → off (kind (c .task i .phase)) ≡ d → serveOf file (Step i) (encodeConfig n c) ≡ encodeServed n (step object n i c)
         by false e d g = rw e (step-unknown e)
         by true e true g = rw (e, g) (step-idle (ltb-true i n e) g)
         by true e false g = rw (e, g) (step-pending (ltb-true i n e) g)
@@ -152,7 +157,7 @@ module _ (file : List ℕ) (shape : Shape) (table : ObjectTable file shape) (n :
             begin-refused cause.Pending
             (rw (task-at below, begin-known (encodeTask (c .task i)), pending-read file shape table n some most (ceiling n) (c .task i) t e (range .timely i below e), pending-number file shape table n some most (c .task i) t e))
 
-        begin-idle : off (kind (c .task i .phase)) ≡ true → serveOf file (Begin i o) (encodeConfig n c) ≡ encodeServed n (begun (objectOf file shape table) i o c)
+        begin-idle : off (kind (c .task i .phase)) ≡ true → serveOf file (Begin i o) (encodeConfig n c) ≡ encodeServed n (begun object i o c)
         begin-idle e =
             let t = range .formed .task i below in
             let p = c .task i .priority in
@@ -161,11 +166,11 @@ module _ (file : List ℕ) (shape : Shape) (table : ObjectTable file shape) (n :
             ∙ rw (begun-encoded o p (changing file shape o), tabulate-set encodeTask n (c .task) i (record { phase = firstPhase (changing file shape o); operation = o; priority = p; steps = 0 }) below)
 
       -- A call of begin, whatever its numbers.
-      pub begin-simulates : serveOf file (Begin i o) (encodeConfig n c) ≡ encodeServed n (begin (objectOf file shape table) n i o c)
+      pub begin-simulates : serveOf file (Begin i o) (encodeConfig n c) ≡ encodeServed n (begin object n i o c)
       unfolding begin
       begin-simulates = by (ltb i n) refl (ltb o (shape .operations)) refl (off (kind (c .task i .phase))) refl
         where
-          by : (b : Bool) → ltb i n ≡ b → (k : Bool) → ltb o (shape .operations) ≡ k → (d : Bool) → off (kind (c .task i .phase)) ≡ d → serveOf file (Begin i o) (encodeConfig n c) ≡ encodeServed n (begin (objectOf file shape table) n i o c)
+          by : (b : Bool) → ltb i n ≡ b → (k : Bool) → ltb o (shape .operations) ≡ k → (d : Bool) → off (kind (c .task i .phase)) ≡ d → serveOf file (Begin i o) (encodeConfig n c) ≡ encodeServed n (begin object n i o c)
           by false e k f d g = rw e (begin-unknown e)
           by true e false f d g = rw (e, f) (begin-operation (ltb-true i n e) f)
           by true e true f true g = rw (e, f, g) (begin-idle (ltb-true i n e) (ltb-true o (shape .operations) f) g)
@@ -173,15 +178,15 @@ module _ (file : List ℕ) (shape : Shape) (table : ObjectTable file shape) (n :
 
   -- ---- Lists of calls
 
-  pub serve-simulates : (x : Call) (c : Config) → InRange (objectOf file shape table) n c → serveOf file x (encodeConfig n c) ≡ encodeServed n (serve (objectOf file shape table) n x c)
+  pub serve-simulates : (x : Call) (c : Config) → InRange object n c → serveOf file x (encodeConfig n c) ≡ encodeServed n (serve object n x c)
   serve-simulates (Begin i o) c r = begin-simulates c r i o
   serve-simulates (Step i) c r = step-simulates c r i
 
   -- From a configuration that no list of calls leads out of range.
-  pub run-simulates : (xs : List Call) (c : Config) → ((ys : List Call) → InRange (objectOf file shape table) n (run (objectOf file shape table) n ys c)) → runOf file xs (encodeConfig n c) ≡ encodeConfig n (run (objectOf file shape table) n xs c)
+  pub run-simulates : (xs : List Call) (c : Config) → ((ys : List Call) → InRange object n (run object n ys c)) → runOf file xs (encodeConfig n c) ≡ encodeConfig n (run object n xs c)
   run-simulates [] c r = refl
-  run-simulates (x ∷ xs) c r = rw (serve-simulates x c (r [])) (run-simulates xs (serve (objectOf file shape table) n x c .config) (λ ys. r (x ∷ ys)))
+  run-simulates (x ∷ xs) c r = rw (serve-simulates x c (r [])) (run-simulates xs (serve object n x c .config) (λ ys. r (x ∷ ys)))
 
-  pub history-simulates : (xs : List Call) (c : Config) → ((ys : List Call) → InRange (objectOf file shape table) n (run (objectOf file shape table) n ys c)) → historyOf file xs (encodeConfig n c) ≡ history (objectOf file shape table) n xs c
+  pub history-simulates : (xs : List Call) (c : Config) → ((ys : List Call) → InRange object n (run object n ys c)) → historyOf file xs (encodeConfig n c) ≡ history object n xs c
   history-simulates [] c r = refl
-  history-simulates (x ∷ xs) c r = rw (serve-simulates x c (r [])) (ap (λ (es : List Event). record { call = x; answer = serve (objectOf file shape table) n x c .answer } ∷ es) (history-simulates xs (serve (objectOf file shape table) n x c .config) (λ ys. r (x ∷ ys))))
+  history-simulates (x ∷ xs) c r = rw (serve-simulates x c (r [])) (ap (λ (es : List Event). record { call = x; answer = serve object n x c .answer } ∷ es) (history-simulates xs (serve object n x c .config) (λ ys. r (x ∷ ys))))

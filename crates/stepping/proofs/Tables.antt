@@ -32,9 +32,6 @@ module _ {A : Type 0} where
   tabulated d l n f e h =
       ext-getD d l (tabulate n f) (e ∙ sym (tabulate-length n f)) (λ k b. let c : k < n = omega arith in h k c ∙ sym (tabulate-at n f d k c))
 
-  pub tabulate-same : (n : ℕ) (f g : ℕ → A) → A → ((k : ℕ) → k < n → f k ≡ g k) → tabulate n f ≡ tabulate n g
-  tabulate-same n f g d h = tabulated d (tabulate n f) n g (tabulate-length n f) (λ k b. tabulate-at n f d k b ∙ h k b)
-
   pub tabulate-replicate : (n : ℕ) (x : A) → replicate n x ≡ tabulate n (λ _. x)
   tabulate-replicate n x = tabulated x (replicate n x) n (λ _. x) (length-replicate n x) (λ k b. getD-replicate n k x x b)
 

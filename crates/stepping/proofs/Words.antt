@@ -18,6 +18,7 @@ use Rattle.cells.proofs.WordMarks.{has-mark, add-mark, remove-mark, set-value, 
 use Rattle.table.specs.declared.Shape.{Shape}
 use Rattle.table.proofs.Fitting.{Fitting}
 use Rattle.table.proofs.Accepted.{accepted-fitting}
+use Rattle.machine.specs.Object.{Object}
 use Rattle.machine.specs.Memory.{HeadValue, Free, Held, Content, Empty, Op, Resp, Cell, stateOf, outcomeOf, head-dec, announcement-dec}
 use Rattle.machine.specs.Machine.{linked, released, decided}
 use Rattle.machine.specs.Form.{CellFormed, HeadFormed, AnnouncementFormed, HeadValueFormed, ContentFormed}
@@ -63,6 +64,7 @@ module _ {A : Type 0} {n : ℕ} {Ranged : A → Type 0} {word : A → ℕ → �
 
 -- ---- Heads and announcements
 
+-- Different values are different heads, and different announcements.
 head-same-value : (v u : HeadValue) → headIn v ≡ headIn u → v ≡ u
 head-same-value (Free q) (Free p) e = cc
 head-same-value (Free q) (Held p j r) e = cc
@@ -89,6 +91,7 @@ pub response-in : (v : HeadValue) → responseIn (headIn v) ≡ outcomeOf v
 response-in (Free q) = refl
 response-in (Held q j r) = refl
 
+-- Link and release of a head's word and of an announcement's.
 module _ {c : ℕ} {f : ℕ → ℕ → ℕ} (sets : SetsBit c f) (i : ℕ) (few : i < marksWidth) where
   set-head : (v : HeadValue) (m : ℕ) → m < 2 ^ marksWidth → f i (headWord (headIn v) m) ≡ headWord (headIn v) (f i m)
   unfolding headWord pack
@@ -102,22 +105,27 @@ module _ {c : ℕ} {f : ℕ → ℕ → ℕ} (sets : SetsBit c f) (i : ℕ) (few
   set-announcement (Resp v) m h = set-word sets i few m _ h
 
 module _ (file : List ℕ) (shape : Shape) (table : ObjectTable file shape) (n : ℕ) (most : n ≤ marksWidth) where
+  abbrev object : Object
+  object = objectOf file shape table
+
   fitting : Fitting file shape
   fitting = accepted-fitting file shape (table .accepted)
 
   few-marks : (m : ℕ) → m < 2 ^ n → m < 2 ^ marksWidth
   few-marks m h = let p : 2 ^ n ≤ 2 ^ marksWidth = pow-le-pow-right (omega arith) most in omega arith
 
-  head-fits : (v : HeadValue) (m : ℕ) → HeadValueFormed (objectOf file shape table) n v → m < 2 ^ n → Fit headWidths (headValues (headIn v) m)
+  -- Values and marks in range fit their fields.
+  head-fits : (v : HeadValue) (m : ℕ) → HeadValueFormed object n v → m < 2 ^ n → Fit headWidths (headValues (headIn v) m)
   head-fits (Free q) m f l = let s : q < shape .states = ltb-true _ _ f in omega (arith, few-marks m l, fitting)
   head-fits (Held q j r) m f l = let s : q < shape .states = ltb-true _ _ (f .0) in omega (arith, few-marks m l, fitting)
 
-  content-fits : (v : Content) (m : ℕ) → ContentFormed (objectOf file shape table) v → m < 2 ^ n → Fit announcementWidths (announcementValues (announcementIn v) m)
+  content-fits : (v : Content) (m : ℕ) → ContentFormed object v → m < 2 ^ n → Fit announcementWidths (announcementValues (announcementIn v) m)
   content-fits Empty m f l = omega (arith, few-marks m l)
   content-fits (Op o) m f l = omega (arith, few-marks m l, fitting)
   content-fits (Resp v) m f l = omega (arith, few-marks m l)
 
-  head-coding : Coding n (HeadValueFormed (objectOf file shape table) n) (λ v m. headWord (headIn v) m)
+  -- So heads and announcements are cells of the kind above.
+  head-coding : Coding n (HeadValueFormed object n) (λ v m. headWord (headIn v) m)
   head-coding = record {
     few = few-marks;
     marks-in = λ v m f l. head-marks (headIn v) m (head-fits v m f l);
@@ -125,7 +133,7 @@ module _ (file : List ℕ) (shape : Shape) (table : ObjectTable file shape) (n :
     sets = set-head;
   }
 
-  content-coding : Coding n (ContentFormed (objectOf file shape table)) (λ v m. announcementWord (announcementIn v) m)
+  content-coding : Coding n (ContentFormed object) (λ v m. announcementWord (announcementIn v) m)
   content-coding = record {
     few = few-marks;
     marks-in = λ v m f l. announcement-marks (announcementIn v) m (content-fits v m f l);
@@ -134,7 +142,7 @@ module _ (file : List ℕ) (shape : Shape) (table : ObjectTable file shape) (n :
   }
 
   -- A head in range.
-  module _ (h : Cell HeadValue) (ranged : HeadFormed (objectOf file shape table) n h) where
+  module _ (h : Cell HeadValue) (ranged : HeadFormed object n h) where
     pub head-read : headOf (encodeHead h) ≡ headIn (h .value)
     head-read = head-decode (headIn (h .value)) (h .marks) (head-fits (h .value) (h .marks) (ranged .value) (ranged .marks))
 
@@ -147,18 +155,18 @@ module _ (file : List ℕ) (shape : Shape) (table : ObjectTable file shape) (n :
     pub head-released : (i : ℕ) → i < n → removeMark i (encodeHead h) ≡ encodeHead (released i h)
     head-released i below = cell-released head-coding h ranged i (omega arith)
 
-    pub head-same : (g : Cell HeadValue) → HeadFormed (objectOf file shape table) n g → eqb (encodeHead h) (encodeHead g) ≡ decided (head-dec h g)
+    pub head-same : (g : Cell HeadValue) → HeadFormed object n g → eqb (encodeHead h) (encodeHead g) ≡ decided (head-dec h g)
     head-same g r = cell-same head-coding h ranged g r (head-dec h g)
 
     pub head-in-form : headInForm (shape .states) n (encodeHead h) ≡ true
     head-in-form = head-form (headIn (h .value)) (h .marks) (head-fits (h .value) (h .marks) (ranged .value) (ranged .marks)) (shape .states) n ∙ both (h .value) (ranged .value)
       where
-        both : (v : HeadValue) → HeadValueFormed (objectOf file shape table) n v → (ltb (h .marks) (2 ^ n) && headInRange (shape .states) n (headIn v)) ≡ true
+        both : (v : HeadValue) → HeadValueFormed object n v → (ltb (h .marks) (2 ^ n) && headInRange (shape .states) n (headIn v)) ≡ true
         both (Free q) f = rw (lt-ltb (h .marks) (2 ^ n) (ranged .marks), f)
         both (Held q j r) f = rw (lt-ltb (h .marks) (2 ^ n) (ranged .marks), f .0, lt-ltb j marksWidth (omega (arith, f .1)))
 
   -- An announcement in range.
-  module _ (a : Cell Content) (ranged : AnnouncementFormed (objectOf file shape table) n a) where
+  module _ (a : Cell Content) (ranged : AnnouncementFormed object n a) where
     pub announcement-read : announcementOf (encodeAnnouncement a) ≡ announcementIn (a .value)
     announcement-read = announcement-decode (announcementIn (a .value)) (a .marks) (content-fits (a .value) (a .marks) (ranged .value) (ranged .marks))
 
@@ -171,13 +179,13 @@ module _ (file : List ℕ) (shape : Shape) (table : ObjectTable file shape) (n :
     pub announcement-released : (i : ℕ) → i < n → removeMark i (encodeAnnouncement a) ≡ encodeAnnouncement (released i a)
     announcement-released i below = cell-released content-coding a ranged i (omega arith)
 
-    pub announcement-same : (g : Cell Content) → AnnouncementFormed (objectOf file shape table) n g → eqb (encodeAnnouncement a) (encodeAnnouncement g) ≡ decided (announcement-dec a g)
+    pub announcement-same : (g : Cell Content) → AnnouncementFormed object n g → eqb (encodeAnnouncement a) (encodeAnnouncement g) ≡ decided (announcement-dec a g)
     announcement-same g r = cell-same content-coding a ranged g r (announcement-dec a g)
 
     pub announcement-in-form : announcementInForm (shape .operations) n (encodeAnnouncement a) ≡ true
     announcement-in-form = announcement-form (announcementIn (a .value)) (a .marks) (content-fits (a .value) (a .marks) (ranged .value) (ranged .marks)) (shape .operations) n ∙ both (a .value) (ranged .value)
       where
-        both : (v : Content) → ContentFormed (objectOf file shape table) v → (ltb (a .marks) (2 ^ n) && announcementInRange (shape .operations) (announcementIn v)) ≡ true
+        both : (v : Content) → ContentFormed object v → (ltb (a .marks) (2 ^ n) && announcementInRange (shape .operations) (announcementIn v)) ≡ true
         both Empty f = rw (lt-ltb (a .marks) (2 ^ n) (ranged .marks))
         both (Op o) f = rw (lt-ltb (a .marks) (2 ^ n) (ranged .marks), lt-ltb o (shape .operations) f)
         both (Resp v) f = rw (lt-ltb (a .marks) (2 ^ n) (ranged .marks))
