@@ -7,6 +7,8 @@ use Prim.Native.Nat.{ℕ, _≤_}
 use native.Mathlib.Omega.{arith}
 use borrow.Author.Tests.{lt-ltb}
 use lib.ListN.{length}
+use Rattle.refusal.specs.declared.Refusal.{Refusal}
+use Rattle.refusal.specs.Number.{numberOf}
 use Rattle.cells.specs.Ceiling.{ceilingOf}
 use Rattle.cells.specs.Image as words
 use Rattle.cells.specs.declared.ceiling.Ceiling.the-variants.{Steps}
@@ -15,8 +17,10 @@ use Rattle.table.specs.declared.Shape.{Shape}
 use Rattle.table.proofs.Accepted.{accepted-fitting}
 use Rattle.machine.specs.Object.{Object}
 use Rattle.machine.specs.Memory.{image}
-use Rattle.machine.specs.Run.{Config, Call, start, serve, run, history}
+use Rattle.machine.specs.Machine.{Next, Go, Turn, End}
+use Rattle.machine.specs.Run.{Config, Call, Refused, Served, answerOf, start, serve, run, history}
 use Rattle.machine.specs.Demand.{Shown, Demand}
+use Rattle.machine.proofs.Calls.{Serving, begins, begin-task, begin-operation, begin-pending, moves, step-task, step-idle, serving}
 use Rattle.machine.proofs.Demands.{machineShows, demand-ceiling}
 use Rattle.machine.proofs.Formed.{formed-run}
 use Rattle.machine.proofs.Update.{clash}
@@ -36,6 +40,24 @@ reached b n q some good xs = record {
   formed = formed-run b n xs good;
   timely = λ i below e. omega (arith, pending-steps b n q good xs i below (λ z. clash (ap off z) e), bound-ceiling n some);
 }
+
+-- The machine refuses with 7 to 10 alone.
+step-answers : (k : ℕ) (y : Next) (reason : Refusal) → answerOf k y ≡ Refused reason → ⊥
+step-answers k (Go f) reason e = let z : _≡_ {A = ℕ} 0 1 = cc in omega arith
+step-answers k (Turn f) reason e = let z : _≡_ {A = ℕ} 0 1 = cc in omega arith
+step-answers k (End v) reason e = let z : _≡_ {A = ℕ} 0 1 = cc in omega arith
+
+same-refusal : {a b : Refusal} → Refused a ≡ Refused b → numberOf a ≡ numberOf b
+same-refusal {a} {b} e = let same : a ≡ b = cc in ap numberOf same
+
+refuses : {b : Object} {n : ℕ} {c : Config} {x : Call} {z : Served} → Serving b n c x z → (reason : Refusal) → z .answer ≡ Refused reason → (7 ≤ numberOf reason) × (numberOf reason ≤ 10)
+refuses (begins h k d) reason e = absurd (let z : _≡_ {A = ℕ} 0 1 = cc in omega arith)
+refuses (begin-task h) reason e = omega (arith, same-refusal e)
+refuses (begin-operation h k) reason e = omega (arith, same-refusal e)
+refuses (begin-pending h k d) reason e = omega (arith, same-refusal e)
+refuses {c = c} (moves {i = i} {y = y} h d v) reason e = absurd (step-answers (c .task i .steps) y reason e)
+refuses (step-task h) reason e = omega (arith, same-refusal e)
+refuses (step-idle h d) reason e = omega (arith, same-refusal e)
 
 -- An accepted start with a table.
 module _ (file : List ℕ) (shape : Shape) (table : ObjectTable file shape) (cells : List ℕ) (row : List Task) (accepted : startOf file cells row .answer ≡ Started) where
@@ -67,6 +89,10 @@ module _ (file : List ℕ) (shape : Shape) (table : ObjectTable file shape) (cel
 
     pub answer-started : (x : Call) → serveOf file x (runOf file xs (startStore file cells row)) .answer ≡ serve (objectOf file shape table) (length row) x (run (objectOf file shape table) (length row) xs (start (shape .start))) .answer
     answer-started x = rw run-started (ap (λ (out : Outcome). out .answer) (serve-simulates file shape table n (starts .some) (starts .most) x (machineRun xs) (in-range xs)))
+
+    -- A begin or a step of a run is refused with 7 to 10 alone: 4, 11 and 12 never occur.
+    pub refused-started : (x : Call) (reason : Refusal) → serveOf file x (runOf file xs (startStore file cells row)) .answer ≡ Refused reason → (7 ≤ numberOf reason) × (numberOf reason ≤ 10)
+    refused-started x reason e = refuses (serving (objectOf file shape table) n (machineRun xs) x) reason (sym (answer-started x) ∙ e)
 
   -- What the machine shows, with its cells as words.
   abbrev encodedShows : Shown (List ℕ)
