@@ -23,7 +23,7 @@ use Rattle.stepping.specs.declared.access.Found.the-variants.{Word, Stor
 use Rattle.stepping.specs.Step.{touched, foundOf, performOf, cellInForm}
 use Rattle.stepping.specs.Encoding.{ObjectTable, objectOf, encodeHead, encodeAnnouncement, encodeCells}
 use Rattle.stepping.proofs.Tables.{tabulate-length, tabulate-at, tabulate-set}
-use Rattle.stepping.proofs.Words.{head-same, head-in-form, announcement-same, announcement-in-form}
+use Rattle.stepping.proofs.EncodedCells.{head-same, head-in-form, announcement-same, announcement-in-form}
 
 -- The access and its result on words. A step with no access isn't accepted.
 abbrev pub encodeAccess : machine.Access → Access

@@ -1,5 +1,5 @@
 pub mod Tables
-pub mod Words
+pub mod EncodedCells
 pub mod Records
 pub mod Accesses
 pub mod Plans

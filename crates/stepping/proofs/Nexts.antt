@@ -21,7 +21,7 @@ use Rattle.stepping.specs.declared.access.Next.{Next}
 use Rattle.stepping.specs.declared.access.Next.the-variants.{Go, Turn, End}
 use Rattle.stepping.specs.Step.{madeIn, afterPoll, afterLink, afterPriority, afterOwn, afterLinkHelped, holderIs, afterExit, nextOf, advanceOf, answerOf}
 use Rattle.stepping.specs.Encoding.{ObjectTable, objectOf, headIn, announcementIn, encodeHead, encodeAnnouncement, kept, encodeTask, stepAnswer}
-use Rattle.stepping.proofs.Words.{head-read, head-has, head-linked, announcement-read, announcement-has, announcement-linked}
+use Rattle.stepping.proofs.EncodedCells.{head-read, head-has, head-linked, announcement-read, announcement-has, announcement-linked}
 use Rattle.stepping.proofs.Accesses.{encodeResult}
 use Rattle.stepping.proofs.Plans.{recordIn, head-state, named-outcome}
 

@@ -25,7 +25,7 @@ use Rattle.stepping.specs.declared.record.Task.{Task}
 use Rattle.stepping.specs.declared.access.Access.the-variants.{Swap}
 use Rattle.stepping.specs.Step.{stateIn, responseIn, named, clearedWord, appliedWord, operationWord, responseWord, planOf, touched, usedInRange}
 use Rattle.stepping.specs.Encoding.{ObjectTable, objectOf, encodeHead, encodeAnnouncement, encodeCells, kept, encodeTask}
-use Rattle.stepping.proofs.Words.{state-in, response-in, head-read, head-linked, head-released, announcement-linked, announcement-released}
+use Rattle.stepping.proofs.EncodedCells.{state-in, response-in, head-read, head-linked, head-released, announcement-linked, announcement-released}
 use Rattle.stepping.proofs.Accesses.{encodeAccess, AccessFormed}
 
 -- The record of a task in a phase, with its priority, operation and steps.

@@ -26,7 +26,7 @@ use Rattle.stepping.specs.declared.phase.PhaseRead.the-variants.{Known}
 use Rattle.stepping.specs.Phase.{phaseNumber, phaseOf}
 use Rattle.stepping.specs.Record.{idleTask, idleInForm, namesTask, payloadInForm, pendingInForm, recordInForm, readRecord}
 use Rattle.stepping.specs.Encoding.{ObjectTable, objectOf, encodeHead, encodeAnnouncement, Kept, keep, kept, encodeTask}
-use Rattle.stepping.proofs.Words.{head-in-form, announcement-in-form}
+use Rattle.stepping.proofs.EncodedCells.{head-in-form, announcement-in-form}
 
 -- What holds at each of the first eight numbers.
 each-of-eight : (P : ℕ → Type 0) → P 0 → P 1 → P 2 → P 3 → P 4 → P 5 → P 6 → P 7 → (j : ℕ) → j < 8 → P j
