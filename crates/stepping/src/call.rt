@@ -19,6 +19,7 @@ ghost use mathlib.Core.Bool.{cond};
 ghost use Prim.Native.Nat.{_≤_, _<_};
 ghost use lib.ListN.{length};
 ghost use Rattle.table.specs.Entries.{changing};
+ghost use Rattle.stepping.specs.Phase.{phaseNumber};
 ghost use Rattle.stepping.specs.Step.{touched, planOf};
 ghost use Rattle.stepping.specs.Call.{withRow, admitOf, notGranted, admitStartOf, refuseBegin, begunTask, beginFrom, beginIn, beginTask, stepFrom, stepIn, stepTask};
 
@@ -122,22 +123,20 @@ fn refuse_begin(own: Task, cause: Refusal) -> Begin
     }
 }
 
-// The first phase of an operation: a changing one is announced, a reading one has one step.
-fn first_phase(file: &[u8], shape: Shape, operation: u16) -> Phase
-    ensures { λ r. ⌜ r ≡ cond (changing (now (file .entry)) shape operation) Phase.Announce Phase.ReadOnly ⌝ }
+// The first phase's number: a changing operation is announced, a reading one has one step.
+fn first_phase(file: &[u8], shape: Shape, operation: u16) -> u32
+    ensures { λ r. ⌜ r ≡ cond (changing (now (file .entry)) shape operation) (phaseNumber Phase.Announce) (phaseNumber Phase.ReadOnly) ⌝ }
 {
     if table::is_changing(file, shape, operation) {
-        Phase::Announce
-    } else {
-        Phase::ReadOnly
+        return phase::phase_number(Phase::Announce);
     }
+    phase::phase_number(Phase::ReadOnly)
 }
 
 // The record of a task that has begun an operation.
 fn begun_task(file: &[u8], shape: Shape, operation: u16, own: Task) -> Task
     ensures { λ r. ⌜ r ≡ begunTask (now (file .entry)) shape operation own ⌝ }
 {
-    let first = first_phase(file, shape, operation);
     Task {
         head: 0,
         announcement: 0,
@@ -145,7 +144,7 @@ fn begun_task(file: &[u8], shape: Shape, operation: u16, own: Task) -> Task
         steps: 0,
         operation,
         priority: own.priority,
-        phase: phase::phase_number(first),
+        phase: first_phase(file, shape, operation),
     }
 }
 
