@@ -1,6 +1,7 @@
 -- What an admitted call knows of the row and of the ceiling.
 use mathlib.Core.Path.{_≡_, refl}
 use mathlib.Core.Bool.{Bool, true, false}
+use mathlib.Core.List.{List}
 use Prim.Native.Nat.{ℕ, _-_, _<_, _≤_}
 use native.Mathlib.Omega.{arith}
 use borrow.Author.Tests.{leb-true}
@@ -16,7 +17,8 @@ use Rattle.table.specs.declared.Checked.{Checked}
 use Rattle.table.specs.declared.Checked.the-variants as table
 use Rattle.stepping.specs.declared.call.Admitted.{Admitted}
 use Rattle.stepping.specs.declared.call.Admitted.the-variants as admitted
-use Rattle.stepping.specs.Call.{withCeiling, withRow}
+use Rattle.table.specs.Layout.{layoutOf}
+use Rattle.stepping.specs.Call.{withCeiling, withRow, admitOf}
 
 -- A row of 1 to 8 tasks and a ceiling of the table.
 pub record Ranges (n c : ℕ) : Type 0 where
@@ -51,3 +53,7 @@ admitted-ranges n c shape (table.Accepted found) e = at (ceilingOf n) refl e
     at (ceiling.Steps d) p q = let r : d ≡ c = cc in ceiling-ranges n c (rw r at p)
     at (ceiling.Refused reason) p q = let z : _≡_ {A = ℕ} 0 1 = cc in absurd (omega arith)
 admitted-ranges n c shape (table.Refused reason) e = let z : _≡_ {A = ℕ} 0 1 = cc in absurd (omega arith)
+
+pub admit-ranges : (file : List ℕ) (n c : ℕ) (shape : Shape) → admitOf file n ≡ admitted.Accepted shape c → Ranges n c
+unfolding admitOf
+admit-ranges file n c shape e = admitted-ranges n c shape (layoutOf file) e

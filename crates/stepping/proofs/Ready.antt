@@ -100,19 +100,16 @@ module _ (file : List ℕ) (shape : Shape) (n i : ℕ) (t : Task) (own : i < n) 
   touched-below (Release j) h = omega arith
   touched-below (ReloadRelease j) h = omega arith
 
--- What a step needs of the record's phase.
-pub record Ready (file : List ℕ) (shape : Shape) (n i : ℕ) (t : Task) (f : Phase) : Type 0 where
+-- What a step of task i needs of a record in form, with k cells.
+pub record Ready (file : List ℕ) (shape : Shape) (n k i : ℕ) (t : Task) (f : Phase) : Type 0 where
   pub priority : t .priority < n
   pub steps : t .steps < 1000000
-  pub cell : touched (planOf file shape i t f) < n + 1
+  pub cell : touched (planOf file shape i t f) < k
 
-pub ready : (file : List ℕ) (shape : Shape) (n c i : ℕ) (t : Task) (f : Phase) → c ≤ 512000 → i < n → readRecord shape n c t ≡ Known f → Ready file shape n i t f
-ready file shape n c i t f low own e =
+pub ready : (file : List ℕ) (shape : Shape) (n c k i : ℕ) (t : Task) (f : Phase) → c ≤ 512000 → k ≡ n + 1 → i < n → readRecord shape n c t ≡ Known f → Ready file shape n k i t f
+ready file shape n c k i t f low count own e =
     let read = read-parts shape n c t f e in
     let form = formed shape n c t (read .0) in
     let first : t .priority < n = form .priority in
-    record {
-      priority = first;
-      steps = omega (arith, form .steps);
-      cell = touched-below file shape n i t own first f (works n (t .phase) (form .names) f (read .1));
-    }
+    let cell : touched (planOf file shape i t f) < n + 1 = touched-below file shape n i t own first f (works n (t .phase) (form .names) f (read .1)) in
+    record { priority = first; steps = omega (arith, form .steps); cell = omega arith }

@@ -1,7 +1,7 @@
-use mathlib.Core.Path.{sym, subst, _∙_}
-use Prim.Native.Nat.{ℕ, _<_}
+use mathlib.Core.Path.{sym, _∙_}
 use borrow.Author.Needs.{needs}
 use borrow.Author.Tests.{eq-eqb, ne-eqb, lt-ltb, le-ltb}
+use lib.ListN.{length}
 use Rattle.refusal.specs.declared.Refusal.the-variants as cause
 use Rattle.stepping.proofs.Parts.{refused}
 use Rattle.stepping.proofs.Ready.{ready}
@@ -41,9 +41,11 @@ enum-known-read-2 c = search needs
 
 step-from-requires : tie.Need-step-from-requires
 step-from-requires c κs =
-    let s = c .before .before .before .before .before .before .before .before .before in
-    let e = ready (s .args .file .now) (s .args .shape) (s .args .tasks) (s .args .ceiling) (s .args .task) (s .args .own) _ (s .pre .2) (c .before .before .before .before .before .if2 .left) (sym (c .before .before .before .before .read-record .ensures) ∙ c .before .before .read2 .given .1) in
-    (s .pre .0, s .pre .1, c .before .before .before .before .before .if2 .left, e .priority, e .steps, subst (λ (k : ℕ). _ < k) (sym (c .before .before .before .before .before .before .if1 .left)) (e .cell))
+    let read = c .before .before .before .before in
+    let task = read .before .if2 .left in
+    let s = read .before .before .before .before .before in
+    let e = ready (s .args .file .now) (s .args .shape) (s .args .tasks) (s .args .ceiling) (length (s .args .cells .now)) (s .args .task) (s .args .own) _ (s .pre .2) (read .before .before .if1 .left) task (sym (read .read-record .ensures) ∙ c .before .before .read2 .given .1) in
+    (s .pre .0, s .pre .1, task, e .priority, e .steps, e .cell)
 
 returns-3 : tie.Need-returns-3
 returns-3 c =

@@ -1,7 +1,7 @@
 use mathlib.Core.Path.{sym, _∙_}
 use borrow.Author.Needs.{needs}
-use Rattle.stepping.specs.Call.{admitOf, stepTask}
-use Rattle.stepping.proofs.Admission.{admitted-ranges}
+use Rattle.stepping.specs.Call.{stepTask}
+use Rattle.stepping.proofs.Admission.{admit-ranges}
 use Rattle.stepping.proofs.Parts.{refused}
 use Rattle.stepping.proofs.call.step_task.Statement.{statement}
 use Rattle.stepping.proofs.call.step_task.Tie as tie
@@ -19,9 +19,9 @@ enum-known-admitted-2 : tie.Need-enum-known-admitted-2
 enum-known-admitted-2 c = search needs
 
 step-in-requires : tie.Need-step-in-requires
-unfolding admitOf
 step-in-requires c κs =
-    let r = admitted-ranges _ _ _ _ (sym (c .before .before .before .before .admit .ensures) ∙ c .before .before .admitted2 .given .1) in
+    let s = c .before .before .before .before .before .before .before in
+    let r = admit-ranges (s .args .file .now) (s .args .tasks) _ _ (sym (c .before .before .before .before .admit .ensures) ∙ c .before .before .admitted2 .given .1) in
     (r .some, r .few, r .low)
 
 returns : tie.Need-returns
