@@ -1,3 +1,12 @@
+pub mod Lists
+pub mod Phases
+pub mod Defaults
+pub mod Admission
+pub mod Ready
+pub mod Parts
+pub mod Refused
+pub mod Local
+pub mod Started
 pub mod Tables
 pub mod EncodedCells
 pub mod Records

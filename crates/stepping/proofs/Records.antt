@@ -2,7 +2,7 @@
 use mathlib.Core.Path.{_≡_, refl, subst}
 use mathlib.Core.Bool.{Bool, true, false, cond, _&&_, or-true}
 use mathlib.Core.List.{List}
-use Prim.Native.Nat.{ℕ, zero, suc, _+_, _*_, _%_, _<_, _≤_}
+use Prim.Native.Nat.{ℕ, _+_, _*_, _%_, _<_, _≤_}
 use native.Mathlib.Omega.{arith}
 use borrow.Author.Tests.{lt-ltb, lt-leb, ne-eqb}
 use lib.Dec.{eqb, leb, ltb}
@@ -26,23 +26,8 @@ use Rattle.stepping.specs.declared.phase.PhaseRead.the-variants.{Known}
 use Rattle.stepping.specs.Phase.{phaseNumber, phaseOf}
 use Rattle.stepping.specs.Record.{idleTask, idleInForm, namesTask, payloadInForm, pendingInForm, recordInForm, readRecord}
 use Rattle.stepping.specs.Encoding.{ObjectTable, objectOf, encodeHead, encodeAnnouncement, Kept, keep, kept, encodeTask}
+use Rattle.stepping.proofs.Phases.{WorksBelow, known}
 use Rattle.stepping.proofs.EncodedCells.{head-in-form, announcement-in-form}
-
--- What holds at each of the first eight numbers.
-each-of-eight : (P : ℕ → Type 0) → P 0 → P 1 → P 2 → P 3 → P 4 → P 5 → P 6 → P 7 → (j : ℕ) → j < 8 → P j
-each-of-eight P a b c d e f g h zero l = a
-each-of-eight P a b c d e f g h (suc zero) l = b
-each-of-eight P a b c d e f g h (suc (suc zero)) l = c
-each-of-eight P a b c d e f g h (suc (suc (suc zero))) l = d
-each-of-eight P a b c d e f g h (suc (suc (suc (suc zero)))) l = e
-each-of-eight P a b c d e f g h (suc (suc (suc (suc (suc zero))))) l = f
-each-of-eight P a b c d e f g h (suc (suc (suc (suc (suc (suc zero)))))) l = g
-each-of-eight P a b c d e f g h (suc (suc (suc (suc (suc (suc (suc zero))))))) l = h
-each-of-eight P a b c d e f g h (suc (suc (suc (suc (suc (suc (suc (suc j)))))))) l = absurd (omega arith)
-
--- A phase that works for task j is read back from its number.
-abbrev Read : (ℕ → Phase) → ℕ → Type 0
-Read f j = phaseOf (phaseNumber (f j)) ≡ Known (f j)
 
 -- What a record has to keep of a phase of a pending operation.
 record KeptFormed (shape : Shape) (n : ℕ) (k : Kept) : Type 0 where
@@ -83,10 +68,10 @@ module _ (file : List ℕ) (shape : Shape) (table : ObjectTable file shape) (n :
   some-operation = accepted-fitting file shape (table .accepted) .some-operation
 
   -- A phase that names no task.
-  plain : {f : Phase} {v h : ℕ} → phaseOf (phaseNumber f) ≡ Known f → eqb (phaseNumber f) 0 ≡ false → phaseNumber f < 16 → headInForm (shape .states) n h ≡ true → KeptFormed shape n (keep f v h 0)
+  plain : {f : Phase} {v h : ℕ} → WorksBelow 8 f → eqb (phaseNumber f) 0 ≡ false → phaseNumber f < 16 → headInForm (shape .states) n h ≡ true → KeptFormed shape n (keep f v h 0)
   unfolding namesTask
-  plain {f} r p l head = record {
-    read = r;
+  plain {f} w p l head = record {
+    read = known f w;
     pending = p;
     names = rw (lt-ltb (phaseNumber f) 16 l);
     payload = rw (lt-leb 16 (phaseNumber f) l);
@@ -95,13 +80,13 @@ module _ (file : List ℕ) (shape : Shape) (table : ObjectTable file shape) (n :
   }
 
   -- A phase that works for task j: its range of numbers starts at 8 × c.
-  module _ {f : ℕ → Phase} (c : ℕ) (first : 2 ≤ c) (number : (j : ℕ) → phaseNumber (f j) ≡ 8 * c + j) (read : (j : ℕ) → j < 8 → Read f j) where
+  module _ (f : ℕ → Phase) (c : ℕ) (first : 2 ≤ c) (number : (j : ℕ) → phaseNumber (f j) ≡ 8 * c + j) (for-task : (j : ℕ) → j < 8 → WorksBelow 8 (f j)) where
     works : {v h a : ℕ} (j : ℕ) → j < n → v < shape .operations → headInForm (shape .states) n h ≡ true → announcementInForm (shape .operations) n a ≡ true → KeptFormed shape n (keep (f j) v h a)
     unfolding namesTask
     works {v} j below range head announcement =
         let named : phaseNumber (f j) % 8 ≡ j = omega (arith, number j) in
         record {
-          read = read j (omega arith);
+          read = known (f j) (for-task j (omega arith));
           pending = ne-eqb (phaseNumber (f j)) 0 (λ z. omega (arith, number j));
           names = rw (named, lt-ltb j n below) (or-true (ltb (phaseNumber (f j)) 16));
           payload = either-holds (leb 16 (phaseNumber (f j)) && leb (phaseNumber (f j)) 31) (lt-ltb v (shape .operations) range);
@@ -117,32 +102,31 @@ module _ (file : List ℕ) (shape : Shape) (table : ObjectTable file shape) (n :
 
   -- Every phase of a pending operation, with what it has saved in range.
   kept-formed : (f : machine.Phase) → off (kind f) ≡ false → PhaseFormed object n f → KeptFormed shape n (kept f)
-  unfolding phaseOf
   kept-formed Idle e p = clash refl e
-  kept-formed ReadOnly e p = plain refl refl (omega arith) no-head
-  kept-formed Announce e p = plain refl refl (omega arith) no-head
-  kept-formed Poll e p = plain refl refl (omega arith) no-head
-  kept-formed LoadHead e p = plain refl refl (omega arith) no-head
-  kept-formed (LinkHead h) e p = plain refl refl (omega arith) (head-in-form file shape table n most h p)
-  kept-formed (LoadPriority h) e p = plain refl refl (omega arith) (head-in-form file shape table n most h p)
-  kept-formed (LoadOwn h) e p = plain refl refl (omega arith) (head-in-form file shape table n most h p)
-  kept-formed (ClearHead h j) e p = plain refl refl (omega arith) (head-in-form file shape table n most h (p .0))
-  kept-formed (ReloadClear h j) e p = plain refl refl (omega arith) (head-in-form file shape table n most h (p .0))
-  kept-formed (LoadExit v) e p = plain refl refl (omega arith) no-head
-  kept-formed (LinkExit h v) e p = plain refl refl (omega arith) (head-in-form file shape table n most h (p .0))
-  kept-formed (ClearExit h v) e p = plain refl refl (omega arith) (head-in-form file shape table n most h (p .0))
-  kept-formed (ReleaseExit h v) e p = plain refl refl (omega arith) (head-in-form file shape table n most h (p .0))
-  kept-formed (Retract v) e p = plain refl refl (omega arith) no-head
-  kept-formed (Apply h j o) e p = applies 2 (omega arith) (λ j. refl) (each-of-eight (Read phase.Apply) refl refl refl refl refl refl refl refl) h j o p
-  kept-formed (ReloadApply h j o) e p = applies 3 (omega arith) (λ j. refl) (each-of-eight (Read phase.ReloadApply) refl refl refl refl refl refl refl refl) h j o p
+  kept-formed ReadOnly e p = plain tt refl (omega arith) no-head
+  kept-formed Announce e p = plain tt refl (omega arith) no-head
+  kept-formed Poll e p = plain tt refl (omega arith) no-head
+  kept-formed LoadHead e p = plain tt refl (omega arith) no-head
+  kept-formed (LinkHead h) e p = plain tt refl (omega arith) (head-in-form file shape table n most h p)
+  kept-formed (LoadPriority h) e p = plain tt refl (omega arith) (head-in-form file shape table n most h p)
+  kept-formed (LoadOwn h) e p = plain tt refl (omega arith) (head-in-form file shape table n most h p)
+  kept-formed (ClearHead h j) e p = plain tt refl (omega arith) (head-in-form file shape table n most h (p .0))
+  kept-formed (ReloadClear h j) e p = plain tt refl (omega arith) (head-in-form file shape table n most h (p .0))
+  kept-formed (LoadExit v) e p = plain tt refl (omega arith) no-head
+  kept-formed (LinkExit h v) e p = plain tt refl (omega arith) (head-in-form file shape table n most h (p .0))
+  kept-formed (ClearExit h v) e p = plain tt refl (omega arith) (head-in-form file shape table n most h (p .0))
+  kept-formed (ReleaseExit h v) e p = plain tt refl (omega arith) (head-in-form file shape table n most h (p .0))
+  kept-formed (Retract v) e p = plain tt refl (omega arith) no-head
+  kept-formed (Apply h j o) e p = applies phase.Apply 2 (omega arith) (λ j. refl) (λ j l. l) h j o p
+  kept-formed (ReloadApply h j o) e p = applies phase.ReloadApply 3 (omega arith) (λ j. refl) (λ j l. l) h j o p
   kept-formed (LoadHelped h j) e p =
-      works 4 (omega arith) (λ j. refl) (each-of-eight (Read phase.LoadHelped) refl refl refl refl refl refl refl refl) j (p .1) some-operation (head-in-form file shape table n most h (p .0)) no-announcement
-  kept-formed (LinkHelped h j a) e p = helps 5 (omega arith) (λ j. refl) (each-of-eight (Read phase.LinkHelped) refl refl refl refl refl refl refl refl) h j a p
-  kept-formed (Validate h j a) e p = helps 6 (omega arith) (λ j. refl) (each-of-eight (Read phase.Validate) refl refl refl refl refl refl refl refl) h j a p
-  kept-formed (HandOver h j a) e p = helps 7 (omega arith) (λ j. refl) (each-of-eight (Read phase.HandOver) refl refl refl refl refl refl refl refl) h j a p
-  kept-formed (ReloadHandOver h j a) e p = helps 8 (omega arith) (λ j. refl) (each-of-eight (Read phase.ReloadHandOver) refl refl refl refl refl refl refl refl) h j a p
-  kept-formed (Release h j a) e p = helps 9 (omega arith) (λ j. refl) (each-of-eight (Read phase.Release) refl refl refl refl refl refl refl refl) h j a p
-  kept-formed (ReloadRelease h j a) e p = helps 10 (omega arith) (λ j. refl) (each-of-eight (Read phase.ReloadRelease) refl refl refl refl refl refl refl refl) h j a p
+      works phase.LoadHelped 4 (omega arith) (λ j. refl) (λ j l. l) j (p .1) some-operation (head-in-form file shape table n most h (p .0)) no-announcement
+  kept-formed (LinkHelped h j a) e p = helps phase.LinkHelped 5 (omega arith) (λ j. refl) (λ j l. l) h j a p
+  kept-formed (Validate h j a) e p = helps phase.Validate 6 (omega arith) (λ j. refl) (λ j l. l) h j a p
+  kept-formed (HandOver h j a) e p = helps phase.HandOver 7 (omega arith) (λ j. refl) (λ j l. l) h j a p
+  kept-formed (ReloadHandOver h j a) e p = helps phase.ReloadHandOver 8 (omega arith) (λ j. refl) (λ j l. l) h j a p
+  kept-formed (Release h j a) e p = helps phase.Release 9 (omega arith) (λ j. refl) (λ j l. l) h j a p
+  kept-formed (ReloadRelease h j a) e p = helps phase.ReloadRelease 10 (omega arith) (λ j. refl) (λ j l. l) h j a p
 
   -- A pending operation is one of the table's.
   operation-below : (k : Kind) (o s : ℕ) → off k ≡ false → OperationFormed object k o s → o < shape .operations

@@ -1,11 +1,11 @@
 -- An accepted start: what was tested, and that cells and row are those of the machine's start.
 use mathlib.Core.Path.{_≡_, refl, ap, _∙_}
-use mathlib.Core.Bool.{Bool, true, false, _&&_}
+use mathlib.Core.Bool.{Bool, true, false}
 use mathlib.Core.List.{List, [], _∷_, _++_}
 use Prim.Native.Nat.{ℕ, zero, suc, _+_, _≤_}
 use native.Mathlib.Omega.{arith}
-use borrow.Author.Tests.{leb-true, eqb-true}
-use lib.Dec.{eqb, leb}
+use borrow.Author.Tests.{eqb-true}
+use lib.Dec.{eqb}
 use lib.ListN.{length}
 use Rattle.cells.specs.Ceiling.{ceilingOf}
 use Rattle.cells.specs.Image as cells
@@ -13,7 +13,6 @@ use Rattle.cells.specs.Layout.{marksWidth}
 use Rattle.cells.specs.declared.ceiling.Ceiling.{Ceiling}
 use Rattle.cells.specs.declared.ceiling.Ceiling.the-variants as ceiling
 use Rattle.cells.proofs.Images.{image-words}
-use Rattle.cells.proofs.Tests.{and-left, and-right}
 use Rattle.table.specs.declared.Shape.{Shape}
 use Rattle.table.specs.declared.Checked.{Checked}
 use Rattle.table.specs.declared.Checked.the-variants as table
@@ -26,6 +25,7 @@ use Rattle.stepping.specs.declared.call.StartAnswer.the-variants as answ
 use Rattle.stepping.specs.Call.{withRow, idleRow, startIn, startOf}
 use Rattle.stepping.specs.Encoding.{tabulate, encodeCells, encodeTask, encodeRow}
 use Rattle.stepping.specs.Runs.{startStore, encodeConfig}
+use Rattle.stepping.proofs.Admission.{ceiling-ranges}
 use Rattle.stepping.proofs.Tables.{tabulate-replicate}
 
 -- The cells and the row of the machine's start.
@@ -46,15 +46,6 @@ pub record Starts (file cells : List ℕ) (row : List Task) : Type 0 where
   pub long : length cells ≡ length row + 1
   pub store : startStore file cells row ≡ encodeConfig (length row) (start (shape .start))
 
--- A ceiling is given for 1 to 8 tasks alone.
-ceiling-given : (n c : ℕ) → ceilingOf n ≡ ceiling.Steps c → (1 ≤ n) × (n ≤ 8)
-unfolding ceilingOf
-ceiling-given n c e = by (leb 1 n && leb n 8) refl
-  where
-    by : (b : Bool) → leb 1 n && leb n 8 ≡ b → (1 ≤ n) × (n ≤ 8)
-    by true t = (leb-true 1 n (and-left (leb 1 n) (leb n 8) t), leb-true n 8 (and-right (leb 1 n) (leb n 8) t))
-    by false t = absurd (let f = rw t at e in let z : _≡_ {A = ℕ} 0 1 = cc f in omega arith)
-
 pub start-simulates : (file cells : List ℕ) (row : List Task) → startOf file cells row .answer ≡ answer.Started → Starts file cells row
 unfolding startOf
 start-simulates file cells row a = checked (checkOf file) refl a
@@ -66,8 +57,8 @@ start-simulates file cells row a = checked (checkOf file) refl a
     counted shape c e d true l s = record {
       shape = shape;
       accepted = e;
-      some = ceiling-given n c d .0;
-      most = ceiling-given n c d .1;
+      some = ceiling-ranges n c d .some;
+      most = ceiling-ranges n c d .few;
       long = eqb-true (length cells) (n + 1) l;
       store = rw (e, d, l, start-cells n (shape .start), start-row n);
     }
