@@ -1,0 +1,208 @@
+-- The calls of document 01 on lists of words and records: the tests in their order, the first cause that holds, what is
+-- left and what is answered.
+use mathlib.Core.Bool.{Bool, true, false, cond}
+use mathlib.Core.List.{List, [], _∷_, _++_}
+use Prim.Native.Nat.{ℕ, zero, suc, _+_}
+use lib.Dec.{eqb, ltb}
+use lib.ListN.{length, getD, set}
+use Rattle.refusal.specs.declared.Refusal.{Refusal}
+use Rattle.refusal.specs.declared.Refusal.the-variants as cause
+use Rattle.refusal.specs.Number.{numberOf}
+use Rattle.cells.specs.Image.{image}
+use Rattle.cells.specs.Ceiling.{ceilingOf}
+use Rattle.cells.specs.declared.ceiling.Ceiling.{Ceiling}
+use Rattle.cells.specs.declared.ceiling.Ceiling.the-variants as ceiling
+use Rattle.table.specs.declared.Shape.{Shape}
+use Rattle.table.specs.declared.Checked.{Checked}
+use Rattle.table.specs.declared.Checked.the-variants as table
+use Rattle.table.specs.Layout.{layoutOf}
+use Rattle.table.specs.Check.{checkOf}
+use Rattle.table.specs.Entries.{operationInRange, changing}
+use Rattle.stepping.specs.declared.record.Task.{Task}
+use Rattle.stepping.specs.declared.phase.Phase.{Phase}
+use Rattle.stepping.specs.declared.phase.Phase.the-variants as phase
+use Rattle.stepping.specs.declared.phase.PhaseRead.{PhaseRead}
+use Rattle.stepping.specs.declared.phase.PhaseRead.the-variants as record-phase
+use Rattle.stepping.specs.declared.access.Access.{Access}
+use Rattle.stepping.specs.declared.access.Next.{Next}
+use Rattle.stepping.specs.declared.access.Answer.{Answer}
+use Rattle.stepping.specs.declared.access.Answer.the-variants as step
+use Rattle.stepping.specs.declared.call.Admitted.{Admitted}
+use Rattle.stepping.specs.declared.call.Admitted.the-variants as admitted
+use Rattle.stepping.specs.declared.call.Start.{Start}
+use Rattle.stepping.specs.declared.call.StartAnswer.{StartAnswer}
+use Rattle.stepping.specs.declared.call.StartAnswer.the-variants as start
+use Rattle.stepping.specs.declared.call.BeginAnswer.{BeginAnswer}
+use Rattle.stepping.specs.declared.call.BeginAnswer.the-variants as begin
+use Rattle.stepping.specs.declared.call.Begin.{Begin}
+use Rattle.stepping.specs.declared.call.Step.{Step}
+use Rattle.stepping.specs.Phase.{phaseNumber}
+use Rattle.stepping.specs.Record.{idleTask, readRecord}
+use Rattle.stepping.specs.Step.{planOf, touched, foundOf, performOf, cellInForm, usedInRange, nextOf, advanceOf, answerOf}
+
+-- ---- The answers' numbers: 0 if the call is accepted
+
+abbrev pub startNumber : StartAnswer → ℕ
+startNumber start.Started = 0
+startNumber (start.Refused c) = numberOf c
+
+abbrev pub beginNumber : BeginAnswer → ℕ
+beginNumber begin.Begun = 0
+beginNumber (begin.Refused c) = numberOf c
+
+abbrev pub stepNumber : Answer → ℕ
+stepNumber step.Running = 0
+stepNumber (step.Ended r k) = 0
+stepNumber (step.Refused c) = numberOf c
+
+-- ---- Tests that calls share
+
+-- Causes 1 to 3, tested on a file, then cause 5 for n records: the table's shape with the ceiling, or the first cause.
+abbrev pub withCeiling : Shape → Ceiling → Admitted
+withCeiling shape (ceiling.Steps c) = admitted.Accepted shape c
+withCeiling shape (ceiling.Refused reason) = admitted.Refused reason
+
+abbrev pub withRow : ℕ → Checked → Admitted
+withRow n (table.Accepted shape) = withCeiling shape (ceilingOf n)
+withRow n (table.Refused reason) = admitted.Refused reason
+
+unfoldable pub admitOf : List ℕ → ℕ → Admitted
+admitOf file n = withRow n (layoutOf file)
+
+-- ---- Start: 1 to 6, with all entries for 4
+
+-- The idle records of n tasks: task i has priority i.
+unfoldable pub idleRow : ℕ → List Task
+idleRow zero = []
+idleRow (suc n) = idleRow n ++ (idleTask n ∷ [])
+
+-- The cells, the row and the answer of a call of start.
+pub record Started : Type 0 where
+  pub cells : List ℕ
+  pub row : List Task
+  pub answer : StartAnswer
+
+abbrev pub refuseStart : List ℕ → List Task → Refusal → Started
+refuseStart cells row c = record { cells = cells; row = row; answer = start.Refused c }
+
+abbrev pub startIn : List ℕ → List Task → Admitted → Started
+startIn cells row (admitted.Refused c) = refuseStart cells row c
+startIn cells row (admitted.Accepted shape c) =
+    cond (eqb (length cells) (length row + 1))
+    (record { cells = image (length row) (shape .start); row = idleRow (length row); answer = start.Started })
+    (refuseStart cells row cause.Cells)
+
+unfoldable pub startOf : List ℕ → List ℕ → List Task → Started
+startOf file cells row = startIn cells row (withRow (length row) (checkOf file))
+
+-- The tests of start alone, for k cells and n records: whether it is granted and the start state, or the first cause.
+abbrev pub notGranted : Refusal → Start
+notGranted c = record { granted = false; state = 0; answer = start.Refused c }
+
+abbrev pub withCells : (k n : ℕ) → Admitted → Start
+withCells k n (admitted.Refused c) = notGranted c
+withCells k n (admitted.Accepted shape c) =
+    cond (eqb k (n + 1)) (record { granted = true; state = shape .start; answer = start.Started }) (notGranted cause.Cells)
+
+unfoldable pub admitStartOf : List ℕ → (k n : ℕ) → Start
+admitStartOf file k n = withCells k n (withRow n (checkOf file))
+
+-- ---- Begin: 1, 2, 3, 5, 7, 8, then 4 on the operation's entries, then 11, 9
+
+abbrev pub refuseBegin : Task → Refusal → Begin
+refuseBegin t c = record { task = t; answer = begin.Refused c }
+
+-- The record of a task that has begun operation o: a changing one goes on to its announcement, a reading one to its only step.
+abbrev pub begunTask : List ℕ → Shape → ℕ → Task → Task
+begunTask file shape o t = record {
+  head = 0;
+  announcement = 0;
+  payload = 0;
+  steps = 0;
+  operation = o;
+  priority = t .priority;
+  phase = cond (changing file shape o) (phaseNumber phase.Announce) (phaseNumber phase.ReadOnly);
+}
+
+abbrev pub beginFrom : List ℕ → Shape → ℕ → Task → PhaseRead → Begin
+beginFrom file shape o t (record-phase.Refused c) = refuseBegin t c
+beginFrom file shape o t (record-phase.Known f) =
+    cond (eqb (t .phase) 0) (record { task = begunTask file shape o t; answer = begin.Begun }) (refuseBegin t cause.Pending)
+
+abbrev pub beginIn : List ℕ → (n i o : ℕ) → Task → Admitted → Begin
+beginIn file n i o t (admitted.Refused c) = refuseBegin t c
+beginIn file n i o t (admitted.Accepted shape c) =
+    cond (ltb i n)
+    (cond (ltb o (shape .operations))
+    (cond (operationInRange file shape o) (beginFrom file shape o t (readRecord shape n c t)) (refuseBegin t cause.Entry))
+    (refuseBegin t cause.Operation))
+    (refuseBegin t cause.Task)
+
+-- One task's part: the record t of task i in a row of n.
+unfoldable pub beginTask : List ℕ → (n i o : ℕ) → Task → Begin
+beginTask file n i o t = beginIn file n i o t (admitOf file n)
+
+-- ---- Step: 1, 2, 3, 5, 6, 7, 11, 10, 12, then 4 on the one entry that it uses
+
+-- The cells, the record and the answer of one task's step.
+pub record Stepped : Type 0 where
+  pub cells : List ℕ
+  pub task : Task
+  pub answer : Answer
+
+abbrev pub refuseStep : List ℕ → Task → Refusal → Stepped
+refuseStep cells t c = record { cells = cells; task = t; answer = step.Refused c }
+
+-- An accepted step makes its access; record and answer follow from the old record and what came back.
+abbrev pub served : List ℕ → Shape → List ℕ → (n i : ℕ) → Task → Phase → Access → Stepped
+served file shape cells n i t f a =
+    let x = nextOf file shape i t f (foundOf (getD cells (touched a) 0) a) in
+    record { cells = performOf cells a; task = advanceOf n t x; answer = answerOf t x }
+
+-- 12 on the touched cell, then 4 on the entry used.
+abbrev pub touch : List ℕ → Shape → List ℕ → (n i : ℕ) → Task → Phase → Access → Stepped
+touch file shape cells n i t f a =
+    cond (cellInForm shape n (touched a) (getD cells (touched a) 0))
+    (cond (usedInRange file shape t (getD cells (touched a) 0) f) (served file shape cells n i t f a) (refuseStep cells t cause.Entry))
+    (refuseStep cells t cause.Cell)
+
+abbrev pub stepFrom : List ℕ → Shape → List ℕ → (n i : ℕ) → Task → PhaseRead → Stepped
+stepFrom file shape cells n i t (record-phase.Refused c) = refuseStep cells t c
+stepFrom file shape cells n i t (record-phase.Known f) =
+    cond (eqb (t .phase) 0) (refuseStep cells t cause.Idle) (touch file shape cells n i t f (planOf file shape i t f))
+
+abbrev pub stepIn : List ℕ → List ℕ → (n i : ℕ) → Task → Admitted → Stepped
+stepIn file cells n i t (admitted.Refused c) = refuseStep cells t c
+stepIn file cells n i t (admitted.Accepted shape c) =
+    cond (eqb (length cells) (n + 1))
+    (cond (ltb i n) (stepFrom file shape cells n i t (readRecord shape n c t)) (refuseStep cells t cause.Task))
+    (refuseStep cells t cause.Cells)
+
+-- One task's part: the record t of task i in a row of n.
+unfoldable pub stepTask : List ℕ → List ℕ → (n i : ℕ) → Task → Stepped
+stepTask file cells n i t = stepIn file cells n i t (admitOf file n)
+
+-- ---- Begin and step on a row: one task's record is handed over and changed there; the others remain
+
+-- A task's record in a row; past the end, an idle one that no call looks at.
+abbrev pub taskAt : List Task → ℕ → Task
+taskAt row i = getD row i (idleTask 0)
+
+pub record Begun : Type 0 where
+  pub row : List Task
+  pub answer : BeginAnswer
+
+unfoldable pub beginOf : List ℕ → List Task → (i o : ℕ) → Begun
+beginOf file row i o =
+    let out = beginTask file (length row) i o (taskAt row i) in
+    record { row = set row i (out .task); answer = out .answer }
+
+pub record Served : Type 0 where
+  pub cells : List ℕ
+  pub row : List Task
+  pub answer : Answer
+
+unfoldable pub stepOf : List ℕ → List ℕ → List Task → ℕ → Served
+stepOf file cells row i =
+    let out = stepTask file cells (length row) i (taskAt row i) in
+    record { cells = out .cells; row = set row i (out .task); answer = out .answer }

@@ -1,0 +1,6 @@
+pub mod Phase
+pub mod Record
+pub mod Step
+pub mod Call
+pub mod Encoding
+pub mod Runs

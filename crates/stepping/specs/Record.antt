@@ -1,0 +1,48 @@
+-- The forms of a task's record, with a table's shape, n tasks and their ceiling. docs/RECORDS.md says the same in words.
+use mathlib.Core.Bool.{Bool, true, cond, _&&_, _||_}
+use Prim.Native.Nat.{ℕ, _%_, _^_}
+use lib.Dec.{eqb, leb, ltb}
+use Rattle.refusal.specs.declared.Refusal.the-variants as cause
+use Rattle.cells.specs.Form.{headInForm, announcementInForm}
+use Rattle.table.specs.declared.Shape.{Shape}
+use Rattle.stepping.specs.declared.record.Task.{Task}
+use Rattle.stepping.specs.declared.phase.PhaseRead.{PhaseRead}
+use Rattle.stepping.specs.declared.phase.PhaseRead.the-variants.{Known, Refused}
+use Rattle.stepping.specs.Phase.{phaseOf}
+
+-- An idle task keeps its priority alone.
+abbrev pub idleTask : ℕ → Task
+idleTask p = record { head = 0; announcement = 0; payload = 0; steps = 0; operation = 0; priority = p; phase = 0 }
+
+-- The idle form: a priority below n, and 0 in every other field.
+unfoldable pub idleInForm : ℕ → Task → Bool
+idleInForm n t =
+    ltb (t .priority) n && eqb (t .head) 0 && eqb (t .announcement) 0 && eqb (t .payload) 0 && eqb (t .steps) 0 && eqb (t .operation) 0
+
+-- The task that a phase works for is below n: from 16 on the phases are ranges of eight, a number for each task.
+unfoldable pub namesTask : ℕ → ℕ → Bool
+namesTask n phase = ltb phase 16 || ltb (phase % 8) n
+
+-- In the phases Apply and ReloadApply the payload is an operation below m.
+unfoldable pub payloadInForm : ℕ → Task → Bool
+payloadInForm m t = cond (leb 16 (t .phase) && leb (t .phase) 31) (ltb (t .payload) m) true
+
+-- The pending form: the named task, the operation, the priority and the steps in range, and the saved words in form.
+unfoldable pub pendingInForm : Shape → (n ceiling : ℕ) → Task → Bool
+pendingInForm shape n ceiling t =
+    namesTask n (t .phase) && ltb (t .operation) (shape .operations) && ltb (t .priority) n && ltb (t .steps) ceiling
+    && payloadInForm (shape .operations) t
+    && headInForm (shape .states) n (t .head)
+    && announcementInForm (shape .operations) n (t .announcement)
+
+-- A record is in the idle form in phase 0, and in the pending form in every other phase.
+unfoldable pub recordInForm : Shape → (n ceiling : ℕ) → Task → Bool
+recordInForm shape n ceiling t = cond (eqb (t .phase) 0) (idleInForm n t) (pendingInForm shape n ceiling t)
+
+-- The phase of a record, if its number is one and the record is in form; else the record is refused with 11.
+abbrev pub inForm : Bool → PhaseRead → PhaseRead
+inForm fits (Known phase) = cond fits (Known phase) (Refused cause.Record)
+inForm fits (Refused reason) = Refused reason
+
+unfoldable pub readRecord : Shape → (n ceiling : ℕ) → Task → PhaseRead
+readRecord shape n ceiling t = inForm (recordInForm shape n ceiling t) (phaseOf (t .phase))
