@@ -1,13 +1,12 @@
 -- A step looks at one cell: its answer, its record and the word that it writes follow from the table, n, the record and what
 -- that cell holds, and every other cell stays as it was.
-use mathlib.Core.Path.{_≡_, refl, sym, ap, _∙_}
+use mathlib.Core.Path.{_≡_, refl}
 use mathlib.Core.Bool.{Bool, true, false, cond}
 use mathlib.Core.List.{List}
 use mathlib.Core.Logic.{_≢_}
 use Prim.Native.Nat.{ℕ, _+_}
-use native.Mathlib.Omega.{arith}
 use lib.Dec.{eqb, ltb}
-use lib.ListN.{length, getD, set, length-set}
+use lib.ListN.{length, getD, length-set}
 use lib.Seq.{getD-set-other}
 use Rattle.refusal.specs.declared.Refusal.{Refusal}
 use Rattle.refusal.specs.declared.Refusal.the-variants as cause
@@ -18,12 +17,11 @@ use Rattle.stepping.specs.declared.phase.PhaseRead.{PhaseRead}
 use Rattle.stepping.specs.declared.phase.PhaseRead.the-variants as record-phase
 use Rattle.stepping.specs.declared.access.Access.{Access}
 use Rattle.stepping.specs.declared.access.Access.the-variants.{Read}
-use Rattle.stepping.specs.declared.access.Answer.{Answer}
 use Rattle.stepping.specs.declared.call.Admitted.{Admitted}
 use Rattle.stepping.specs.declared.call.Admitted.the-variants as admitted
 use Rattle.stepping.specs.Record.{readRecord}
-use Rattle.stepping.specs.Step.{planOf, touched, foundOf, leftOf, performOf, cellInForm, usedInRange}
-use Rattle.stepping.specs.Call.{admitOf, Stepped, refuseStep, served, touch, stepFrom, stepIn, stepTask}
+use Rattle.stepping.specs.Step.{planOf, touched, leftOf, performOf, cellInForm, usedInRange}
+use Rattle.stepping.specs.Call.{admitOf, Stepped, refuseStep, touch, stepFrom, stepIn, stepTask}
 use Rattle.stepping.proofs.Lists.{set-alike}
 
 -- ---- The access of a step, before a cell is looked at; a call that makes none counts as a read of the head

@@ -1,5 +1,5 @@
 -- A refused call changes nothing.
-use mathlib.Core.Path.{_≡_, refl, ap, _∙_}
+use mathlib.Core.Path.{_≡_, ap, _∙_}
 use mathlib.Core.Bool.{Bool, true, false, cond}
 use mathlib.Core.List.{List}
 use Prim.Native.Nat.{ℕ, _+_}
@@ -18,18 +18,15 @@ use Rattle.stepping.specs.declared.phase.PhaseRead.the-variants as recor
 use Rattle.stepping.specs.declared.access.Access.{Access}
 use Rattle.stepping.specs.declared.access.Next.{Next}
 use Rattle.stepping.specs.declared.access.Next.the-variants.{Go, Turn, End}
-use Rattle.stepping.specs.declared.access.Answer.{Answer}
 use Rattle.stepping.specs.declared.access.Answer.the-variants as step
 use Rattle.stepping.specs.declared.call.Admitted.{Admitted}
 use Rattle.stepping.specs.declared.call.Admitted.the-variants as admitted
-use Rattle.stepping.specs.declared.call.StartAnswer.{StartAnswer}
 use Rattle.stepping.specs.declared.call.StartAnswer.the-variants as start
-use Rattle.stepping.specs.declared.call.BeginAnswer.{BeginAnswer}
 use Rattle.stepping.specs.declared.call.BeginAnswer.the-variants as begin
 use Rattle.stepping.specs.declared.call.Begin.{Begin}
 use Rattle.stepping.specs.Record.{idleTask, readRecord}
-use Rattle.stepping.specs.Step.{planOf, touched, foundOf, performOf, cellInForm, usedInRange, nextOf, advanceOf, answerOf}
-use Rattle.stepping.specs.Call.{withRow, admitOf, Started, refuseStart, startIn, startOf, refuseBegin, begunTask, beginFrom, beginIn, beginTask, Stepped, refuseStep, served, touch, stepFrom, stepIn, stepTask, taskAt, Begun, beginOf, Served, stepOf}
+use Rattle.stepping.specs.Step.{planOf, touched, foundOf, cellInForm, usedInRange, nextOf, answerOf}
+use Rattle.stepping.specs.Call.{withRow, admitOf, Started, refuseStart, startIn, startOf, refuseBegin, beginFrom, beginIn, beginTask, Stepped, refuseStep, touch, stepFrom, stepIn, stepTask, taskAt, beginOf, stepOf}
 use Rattle.stepping.proofs.Lists.{set-held}
 
 -- What holds of both sides of a choice holds of the choice.
