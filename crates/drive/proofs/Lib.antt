@@ -1,2 +1,4 @@
 pub mod Calls
 pub mod Starts
+pub mod Firsts
+pub mod Lent

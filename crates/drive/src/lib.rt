@@ -1,4 +1,6 @@
 // The calls on a lent row of task records: start fills it, begin and step take one record out and put it back.
+pub mod first;
+
 use stepping::access::Answer;
 use stepping::call;
 use stepping::call::BeginAnswer;

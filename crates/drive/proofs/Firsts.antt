@@ -1,0 +1,46 @@
+-- What a call on the first of nine records says at its exit, from what the call on their row says.
+use mathlib.Core.Path.{_≡_, refl, ap, sym, _∙_}
+use mathlib.Core.Bool.{Bool, true, false}
+use mathlib.Core.List.{List, _++_}
+use Prim.Native.Nat.{ℕ, _≤_}
+use native.Mathlib.Omega.{arith}
+use borrow.Author.Tests.{leb-true}
+use lib.Dec.{leb}
+use lib.ListN.{take, drop}
+use Rattle.stepping.specs.declared.record.Task.{Task}
+use Rattle.stepping.specs.declared.access.Answer.{Answer}
+use Rattle.stepping.specs.declared.call.StartAnswer.{StartAnswer}
+use Rattle.stepping.specs.declared.call.BeginAnswer.{BeginAnswer}
+use Rattle.stepping.specs.Call.{Started, Begun, Served}
+use Rattle.drive.specs.First.{firstCount, startFirst, beginFirst, stepFirst}
+use Rattle.drive.proofs.Calls.{BeginSaid, StepSaid}
+use Rattle.drive.proofs.Starts.{StartSaid}
+
+-- At most nine records are lent.
+pub first-few : (n m : ℕ) → m ≡ firstCount n → m ≤ 9
+first-few n m e = rw e (at (leb n 9) refl)
+  where
+    at : (b : Bool) → leb n 9 ≡ b → firstCount n ≤ 9
+    at true e = rw e (leb-true n 9 e)
+    at false e = rw e (omega arith)
+
+pub start-first : (file cs : List ℕ) (xs : List Task) (n m : ℕ) (cs′ : List ℕ) (ys′ : List Task) (a : StartAnswer) (row : List Task) (b : StartAnswer)
+    → m ≡ firstCount n → StartSaid file cs (take m xs) cs′ ys′ a → row ≡ ys′ ++ drop m xs → b ≡ a
+    → _≡_ {A = Started} (record { cells = cs′; row = row; answer = b }) (startFirst file cs xs n)
+unfolding startFirst
+start-first file cs xs n m cs′ ys′ a row b em e er eb =
+    rw (er, eb, sym em) (ap (λ (s : Started). record { cells = s .cells; row = s .row ++ drop m xs; answer = s .answer }) e)
+
+pub begin-first : (file : List ℕ) (xs : List Task) (n m t o : ℕ) (ys′ : List Task) (a : BeginAnswer) (row : List Task) (b : BeginAnswer)
+    → m ≡ firstCount n → BeginSaid file (take m xs) t o ys′ a → row ≡ ys′ ++ drop m xs → b ≡ a
+    → _≡_ {A = Begun} (record { row = row; answer = b }) (beginFirst file xs n t o)
+unfolding beginFirst
+begin-first file xs n m t o ys′ a row b em e er eb =
+    rw (er, eb, sym em) (ap (λ (s : Begun). record { row = s .row ++ drop m xs; answer = s .answer }) e)
+
+pub step-first : (file cs : List ℕ) (xs : List Task) (n m t : ℕ) (cs′ : List ℕ) (ys′ : List Task) (a : Answer) (row : List Task) (b : Answer)
+    → m ≡ firstCount n → StepSaid file cs (take m xs) t cs′ ys′ a → row ≡ ys′ ++ drop m xs → b ≡ a
+    → _≡_ {A = Served} (record { cells = cs′; row = row; answer = b }) (stepFirst file cs xs n t)
+unfolding stepFirst
+step-first file cs xs n m t cs′ ys′ a row b em e er eb =
+    rw (er, eb, sym em) (ap (λ (s : Served). record { cells = s .cells; row = s .row ++ drop m xs; answer = s .answer }) e)
