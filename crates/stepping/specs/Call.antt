@@ -1,6 +1,6 @@
 -- The calls of document 01 on lists of words and records: the tests in their order, the first cause that holds, what is
 -- left and what is answered.
-use mathlib.Core.Bool.{Bool, cond}
+use mathlib.Core.Bool.{true, false, cond}
 use mathlib.Core.List.{List, [], _∷_, _++_}
 use Prim.Native.Nat.{ℕ, zero, suc, _+_}
 use lib.Dec.{eqb, ltb}
@@ -24,17 +24,16 @@ use Rattle.stepping.specs.declared.phase.Phase.the-variants as phase
 use Rattle.stepping.specs.declared.phase.PhaseRead.{PhaseRead}
 use Rattle.stepping.specs.declared.phase.PhaseRead.the-variants as record-phase
 use Rattle.stepping.specs.declared.access.Access.{Access}
-use Rattle.stepping.specs.declared.access.Next.{Next}
 use Rattle.stepping.specs.declared.access.Answer.{Answer}
 use Rattle.stepping.specs.declared.access.Answer.the-variants as step
 use Rattle.stepping.specs.declared.call.Admitted.{Admitted}
 use Rattle.stepping.specs.declared.call.Admitted.the-variants as admitted
+use Rattle.stepping.specs.declared.call.Start.{Start}
 use Rattle.stepping.specs.declared.call.StartAnswer.{StartAnswer}
 use Rattle.stepping.specs.declared.call.StartAnswer.the-variants as start
 use Rattle.stepping.specs.declared.call.BeginAnswer.{BeginAnswer}
 use Rattle.stepping.specs.declared.call.BeginAnswer.the-variants as begin
 use Rattle.stepping.specs.declared.call.Begin.{Begin}
-use Rattle.stepping.specs.declared.call.Step.{Step}
 use Rattle.stepping.specs.Phase.{phaseNumber}
 use Rattle.stepping.specs.Record.{idleTask, readRecord}
 use Rattle.stepping.specs.Step.{planOf, touched, foundOf, performOf, cellInForm, usedInRange, nextOf, advanceOf, answerOf}
@@ -93,6 +92,18 @@ startIn cells row (admitted.Accepted shape c) =
 
 unfoldable pub startOf : List ℕ → List ℕ → List Task → Started
 startOf file cells row = startIn cells row (withRow (length row) (checkOf file))
+
+-- The tests of start alone, for k cells and n records: whether it is granted and the start state, or the first cause.
+abbrev pub notGranted : Refusal → Start
+notGranted c = record { granted = false; state = 0; answer = start.Refused c }
+
+abbrev pub withCells : (k n : ℕ) → Admitted → Start
+withCells k n (admitted.Refused c) = notGranted c
+withCells k n (admitted.Accepted shape c) =
+    cond (eqb k (n + 1)) (record { granted = true; state = shape .start; answer = start.Started }) (notGranted cause.Cells)
+
+unfoldable pub admitStartOf : List ℕ → (k n : ℕ) → Start
+admitStartOf file k n = withCells k n (withRow n (checkOf file))
 
 -- ---- Begin: 1, 2, 3, 5, 7, 8, then 4 on the operation's entries, then 11, 9
 

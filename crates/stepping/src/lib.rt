@@ -1,6 +1,11 @@
 // One task's part of a call, by value: the record and its forms, the phases, the one access of a step, and what follows
 // from it.
 pub mod access;
+mod advance;
 pub mod call;
+mod next;
+mod perform;
 pub mod phase;
+mod plan;
 pub mod record;
+mod words;

@@ -1,5 +1,12 @@
-// A task's private record.
-//
+// A task's private record, and its forms.
+use crate::phase;
+use crate::phase::PhaseRead;
+use cells::form;
+use refusal::Refusal;
+use table::Shape;
+ghost use mathlib.Core.Path.{_≡_};
+ghost use Rattle.stepping.specs.Record.{idleTask, idleInForm, namesTask, payloadInForm, pendingInForm, recordInForm, readRecord};
+
 // Which fields a phase uses, and their forms and ranges, stand in docs/RECORDS.md. Its size is 32 bytes, without gaps.
 #[repr(C)]
 pub struct Task {
@@ -17,4 +24,121 @@ pub struct Task {
     pub priority: u16,
     // What the next step does.
     pub phase: u32,
+}
+
+// The numbers from which on phases name a task, and from which on they do more than apply.
+const FIRST_NAMING: u32 = 16;
+
+const LAST_APPLYING: u32 = 31;
+
+// The record of an idle task, which keeps its priority alone.
+pub fn idle_task(priority: u16) -> Task
+    ensures { λ r. ⌜ r ≡ idleTask priority ⌝ }
+{
+    Task {
+        head: 0,
+        announcement: 0,
+        payload: 0,
+        steps: 0,
+        operation: 0,
+        priority,
+        phase: 0,
+    }
+}
+
+// Whether a record is in the idle form.
+fn idle_in_form(tasks: usize, own: Task) -> bool
+    ensures { λ r. ⌜ r ≡ idleInForm tasks own ⌝ }
+{
+    if own.priority as usize >= tasks {
+        return false;
+    }
+    if own.head != 0 {
+        return false;
+    }
+    if own.announcement != 0 {
+        return false;
+    }
+    if own.payload != 0 {
+        return false;
+    }
+    if own.steps != 0 {
+        return false;
+    }
+    own.operation == 0
+}
+
+// Whether the task that a phase works for is below `tasks`.
+fn names_task(tasks: usize, phase: u32) -> bool
+    ensures { λ r. ⌜ r ≡ namesTask tasks phase ⌝ }
+{
+    if phase < FIRST_NAMING {
+        return true;
+    }
+    ((phase % 8) as usize) < tasks
+}
+
+// Whether the payload is an operation, in the phases that apply it.
+fn payload_in_form(operations: u16, own: Task) -> bool
+    ensures { λ r. ⌜ r ≡ payloadInForm operations own ⌝ }
+{
+    if own.phase < FIRST_NAMING {
+        return true;
+    }
+    if own.phase > LAST_APPLYING {
+        return true;
+    }
+    own.payload < operations as u32
+}
+
+// Whether a record is in the pending form.
+fn pending_in_form(shape: Shape, tasks: usize, ceiling: u32, own: Task) -> bool
+    ensures { λ r. ⌜ r ≡ pendingInForm shape tasks ceiling own ⌝ }
+{
+    if !names_task(tasks, own.phase) {
+        return false;
+    }
+    if own.operation >= shape.operations {
+        return false;
+    }
+    if own.priority as usize >= tasks {
+        return false;
+    }
+    if own.steps >= ceiling {
+        return false;
+    }
+    if !payload_in_form(shape.operations, own) {
+        return false;
+    }
+    if !form::head_in_form(own.head, shape.states as u32, tasks) {
+        return false;
+    }
+    form::announcement_in_form(own.announcement, shape.operations as u32, tasks)
+}
+
+// Whether a record is in the form of its phase.
+fn record_in_form(shape: Shape, tasks: usize, ceiling: u32, own: Task) -> bool
+    ensures { λ r. ⌜ r ≡ recordInForm shape tasks ceiling own ⌝ }
+{
+    if own.phase == 0 {
+        return idle_in_form(tasks, own);
+    }
+    pending_in_form(shape, tasks, ceiling, own)
+}
+
+// The phase of a record; one that is out of form is refused with 11.
+pub fn read_record(shape: Shape, tasks: usize, ceiling: u32, own: Task) -> PhaseRead
+    ensures { λ r. ⌜ r ≡ readRecord shape tasks ceiling own ⌝ }
+{
+    let read = phase::read_phase(own.phase);
+    match read {
+        PhaseRead::Refused(cause) => PhaseRead::Refused(cause),
+        PhaseRead::Known(phase) => {
+            if record_in_form(shape, tasks, ceiling, own) {
+                PhaseRead::Known(phase)
+            } else {
+                PhaseRead::Refused(Refusal::Record)
+            }
+        }
+    }
 }

@@ -1,0 +1,58 @@
+-- What an admitted call knows of the row and of the ceiling.
+use mathlib.Core.Path.{_≡_, refl}
+use mathlib.Core.Bool.{Bool, true, false}
+use mathlib.Core.List.{List}
+use Prim.Native.Nat.{ℕ, _-_, _<_, _≤_}
+use native.Mathlib.Omega.{arith}
+use borrow.Author.Tests.{leb-true}
+use lib.Dec.{leb}
+use lib.ListN.{getD}
+use Rattle.refusal.specs.declared.Refusal.{Refusal}
+use Rattle.cells.proofs.Tests.{holds-at}
+use Rattle.cells.specs.Ceiling.{ceilings, ceilingOf}
+use Rattle.cells.specs.declared.ceiling.Ceiling.{Ceiling}
+use Rattle.cells.specs.declared.ceiling.Ceiling.the-variants as ceiling
+use Rattle.table.specs.declared.Shape.{Shape}
+use Rattle.table.specs.declared.Checked.{Checked}
+use Rattle.table.specs.declared.Checked.the-variants as table
+use Rattle.stepping.specs.declared.call.Admitted.the-variants as admitted
+use Rattle.table.specs.Layout.{layoutOf}
+use Rattle.stepping.specs.Call.{withCeiling, withRow, admitOf}
+
+-- A row of 1 to 8 tasks and a ceiling of the table.
+pub record Ranges (n c : ℕ) : Type 0 where
+  pub some : 0 < n
+  pub few : n ≤ 8
+  pub low : c ≤ 512000
+
+refused : {reason : Refusal} {c : ℕ} → ceiling.Refused reason ≡ ceiling.Steps c → ⊥
+refused e = let z : _≡_ {A = ℕ} 0 1 = cc in omega arith
+
+small : ℕ → Bool
+small k = leb (getD ceilings k 0) 512000
+
+pub ceiling-ranges : (n c : ℕ) → ceilingOf n ≡ ceiling.Steps c → Ranges n c
+unfolding ceilingOf small
+ceiling-ranges n c e = at (leb 1 n) (leb n 8) refl refl
+  where
+    at : (a b : Bool) → leb 1 n ≡ a → leb n 8 ≡ b → Ranges n c
+    at true true p q =
+        let r : getD ceilings (n - 1) 0 ≡ c = cc (simp (p, q) at e) in
+        let l : n ≤ 8 = leb-true n 8 q in
+        let s : 1 ≤ n = leb-true 1 n p in
+        record { some = omega arith; few = l; low = rw r at (leb-true (getD ceilings (n - 1) 0) 512000 (holds-at 8 small refl (n - 1) (omega arith))) }
+    at true false p q = absurd (refused (simp (p, q) at e))
+    at false b p q = absurd (refused (simp p at e))
+
+-- A call is admitted only with a row and a ceiling in these ranges.
+pub admitted-ranges : (n c : ℕ) (shape : Shape) (checked : Checked) → withRow n checked ≡ admitted.Accepted shape c → Ranges n c
+admitted-ranges n c shape (table.Accepted found) e = at (ceilingOf n) refl e
+  where
+    at : (x : Ceiling) → ceilingOf n ≡ x → withCeiling found x ≡ admitted.Accepted shape c → Ranges n c
+    at (ceiling.Steps d) p q = let r : d ≡ c = cc in ceiling-ranges n c (rw r at p)
+    at (ceiling.Refused reason) p q = let z : _≡_ {A = ℕ} 0 1 = cc in absurd (omega arith)
+admitted-ranges n c shape (table.Refused reason) e = let z : _≡_ {A = ℕ} 0 1 = cc in absurd (omega arith)
+
+pub admit-ranges : (file : List ℕ) (n c : ℕ) (shape : Shape) → admitOf file n ≡ admitted.Accepted shape c → Ranges n c
+unfolding admitOf
+admit-ranges file n c shape e = admitted-ranges n c shape (layoutOf file) e

@@ -1,0 +1,9 @@
+pub mod Lists
+pub mod Phases
+pub mod Defaults
+pub mod Admission
+pub mod Ready
+pub mod Parts
+pub mod Refused
+pub mod Local
+pub mod Started

@@ -1,0 +1,50 @@
+-- A step from its parts: what its tests, its access and what follows give together.
+use mathlib.Core.Path.{_≡_, sym, ap}
+use mathlib.Core.Bool.{true, false}
+use mathlib.Core.List.{List}
+use Prim.Native.Nat.{ℕ}
+use borrow.Author.Tests.{eq-eqb, ne-eqb}
+use lib.ListN.{getD}
+use Rattle.refusal.specs.declared.Refusal.{Refusal}
+use Rattle.refusal.specs.declared.Refusal.the-variants as cause
+use Rattle.table.specs.declared.Shape.{Shape}
+use Rattle.stepping.specs.declared.record.Task.{Task}
+use Rattle.stepping.specs.declared.phase.Phase.{Phase}
+use Rattle.stepping.specs.declared.phase.PhaseRead.the-variants.{Known}
+use Rattle.stepping.specs.declared.access.Access.{Access}
+use Rattle.stepping.specs.declared.access.Found.{Found}
+use Rattle.stepping.specs.declared.access.Next.{Next}
+use Rattle.stepping.specs.declared.access.Answer.the-variants as step
+use Rattle.stepping.specs.declared.call.Step.{Step}
+use Rattle.stepping.specs.Step.{planOf, touched, foundOf, performOf, cellInForm, usedInRange, nextOf, advanceOf, answerOf}
+use Rattle.stepping.specs.Call.{Stepped, refuseStep, stepFrom}
+
+-- The cells, record and answer that a step leaves.
+abbrev pub left : List ℕ → Step → Stepped
+left cells r = record { cells = cells; task = r .task; answer = r .answer }
+
+-- What a refused step leaves.
+pub refused : (cells : List ℕ) (t : Task) (reason : Refusal) (r : Step) → r ≡ record { task = t; answer = step.Refused reason } → left cells r ≡ refuseStep cells t reason
+refused cells t reason r e = ap (left cells) e
+
+module _ (file : List ℕ) (shape : Shape) (cells : List ℕ) (n i : ℕ) (t : Task) (f : Phase) where
+  pub idle-refused : t .phase ≡ 0 → refuseStep cells t cause.Idle ≡ stepFrom file shape cells n i t (Known f)
+  idle-refused z = simp (eq-eqb (t .phase) 0 z)
+
+  -- The access a of a pending record, on cell k.
+  module _ (a : Access) (k : ℕ) (pending : t .phase ≡ 0 → ⊥) (planned : a ≡ planOf file shape i t f) (place : k ≡ touched a) where
+    pub cell-refused : cellInForm shape n k (getD cells k 0) ≡ false → refuseStep cells t cause.Cell ≡ stepFrom file shape cells n i t (Known f)
+    cell-refused e = simp (ne-eqb (t .phase) 0 pending, sym planned, sym place, e)
+
+    module _ (formed : cellInForm shape n k (getD cells k 0) ≡ true) where
+      pub entry-refused : usedInRange file shape t (getD cells k 0) f ≡ false → refuseStep cells t cause.Entry ≡ stepFrom file shape cells n i t (Known f)
+      entry-refused e = simp (ne-eqb (t .phase) 0 pending, sym planned, sym place, formed, e)
+
+      pub accepted : usedInRange file shape t (getD cells k 0) f ≡ true → (g : Found) (x : Next) (after : List ℕ) (r : Step)
+          → (g ≡ foundOf (getD cells (touched a) 0) a) × (after ≡ performOf cells a)
+          → x ≡ nextOf file shape i t f g
+          → r ≡ record { task = advanceOf n t x; answer = answerOf t x }
+          → left after r ≡ stepFrom file shape cells n i t (Known f)
+      accepted e g x after r found led gave =
+          simp (ne-eqb (t .phase) 0 pending, sym planned, sym place, formed, e)
+          (simp (gave, led, found .0, found .1, sym place))

@@ -1,0 +1,177 @@
+-- Which number has which phase, and the task that a phase works for.
+use mathlib.Core.Path.{_≡_, refl, sym, ap, subst, _∙_}
+use mathlib.Core.Bool.{Bool, true, false, cond, _&&_}
+use Prim.Native.Nat.{ℕ, zero, suc, _+_, _-_, _%_, _≤_, _<_}
+use native.Mathlib.Omega.{arith}
+use borrow.Author.Tests.{ne-eqb, le-leb, lt-leb, le-ltb, ltb-true, leb-true}
+use lib.Arith.{lt-of-le-ne}
+use lib.Dec.{eqb, leb, ltb}
+use Rattle.cells.proofs.Tests.{and-left, and-right}
+use Rattle.refusal.specs.declared.Refusal.the-variants as cause
+use Rattle.stepping.specs.declared.phase.Phase.{Phase}
+use Rattle.stepping.specs.declared.phase.Phase.the-variants.{Idle, ReadOnly, Announce, Poll, LoadHead, LinkHead, LoadPriority, LoadOwn, LoadExit, LinkExit, ClearExit, ReleaseExit, Retract, ClearHead, ReloadClear, Apply, ReloadApply, LoadHelped, LinkHelped, Validate, HandOver, ReloadHandOver, Release, ReloadRelease}
+use Rattle.stepping.specs.declared.phase.PhaseRead.{PhaseRead}
+use Rattle.stepping.specs.declared.phase.PhaseRead.the-variants.{Known, Refused}
+use Rattle.stepping.specs.Phase.{phaseNumber, range, phaseOf}
+use Rattle.stepping.specs.Record.{namesTask}
+
+-- The task that a phase works for is below n; a phase that works for none asks nothing.
+abbrev pub WorksBelow : ℕ → Phase → Type 0
+WorksBelow n Idle = Unit {0}
+WorksBelow n ReadOnly = Unit {0}
+WorksBelow n Announce = Unit {0}
+WorksBelow n Poll = Unit {0}
+WorksBelow n LoadHead = Unit {0}
+WorksBelow n LinkHead = Unit {0}
+WorksBelow n LoadPriority = Unit {0}
+WorksBelow n LoadOwn = Unit {0}
+WorksBelow n LoadExit = Unit {0}
+WorksBelow n LinkExit = Unit {0}
+WorksBelow n ClearExit = Unit {0}
+WorksBelow n ReleaseExit = Unit {0}
+WorksBelow n Retract = Unit {0}
+WorksBelow n ClearHead = Unit {0}
+WorksBelow n ReloadClear = Unit {0}
+WorksBelow n (Apply j) = j < n
+WorksBelow n (ReloadApply j) = j < n
+WorksBelow n (LoadHelped j) = j < n
+WorksBelow n (LinkHelped j) = j < n
+WorksBelow n (Validate j) = j < n
+WorksBelow n (HandOver j) = j < n
+WorksBelow n (ReloadHandOver j) = j < n
+WorksBelow n (Release j) = j < n
+WorksBelow n (ReloadRelease j) = j < n
+
+-- The ranges of eight alone.
+abbrev ranges : ℕ → PhaseRead
+ranges k =
+    range k 16 Apply
+    (range k 24 ReloadApply
+    (range k 32 LoadHelped
+    (range k 40 LinkHelped
+    (range k 48 Validate
+    (range k 56 HandOver
+    (range k 64 ReloadHandOver
+    (range k 72 Release
+    (range k 80 ReloadRelease (Refused cause.Record)))))))))
+
+past-singles : (k : ℕ) → 14 < k → phaseOf k ≡ ranges k
+unfolding phaseOf
+past-singles k h = simp (other 0 (omega arith), other 1 (omega arith), other 2 (omega arith), other 3 (omega arith), other 4 (omega arith), other 5 (omega arith), other 6 (omega arith), other 7 (omega arith), other 8 (omega arith), other 9 (omega arith), other 10 (omega arith), other 11 (omega arith), other 12 (omega arith), other 13 (omega arith), other 14 (omega arith))
+  where
+    other : (m : ℕ) → m < 15 → eqb k m ≡ false
+    other m l = ne-eqb k m (λ e. omega arith)
+
+-- One range of eight: its numbers, and those past its end.
+module _ (k first : ℕ) (phase : ℕ → Phase) (other : PhaseRead) where
+  within : first ≤ k → k ≤ first + 7 → range k first phase other ≡ Known (phase (k - first))
+  within l h = simp (le-leb first k l, le-leb k (first + 7) h)
+
+  above : first + 7 < k → range k first phase other ≡ other
+  above h = simp (le-leb first k (omega arith), lt-leb k (first + 7) h)
+
+-- Every phase is the phase of its number.
+pub known : (f : Phase) → WorksBelow 8 f → phaseOf (phaseNumber f) ≡ Known f
+unfolding phaseOf
+known Idle h = refl
+known ReadOnly h = refl
+known Announce h = refl
+known Poll h = refl
+known LoadHead h = refl
+known LinkHead h = refl
+known LoadPriority h = refl
+known LoadOwn h = refl
+known LoadExit h = refl
+known LinkExit h = refl
+known ClearExit h = refl
+known ReleaseExit h = refl
+known Retract h = refl
+known ClearHead h = refl
+known ReloadClear h = refl
+known (Apply j) h = past-singles (16 + j) (omega arith) ∙ within (16 + j) 16 Apply _ (omega arith) (omega arith) ∙ ap (λ (x : ℕ). Known (Apply x)) (omega arith)
+known (ReloadApply j) h = past-singles (24 + j) (omega arith) ∙ above (24 + j) 16 Apply _ (omega arith) ∙ within (24 + j) 24 ReloadApply _ (omega arith) (omega arith) ∙ ap (λ (x : ℕ). Known (ReloadApply x)) (omega arith)
+known (LoadHelped j) h = past-singles (32 + j) (omega arith) ∙ above (32 + j) 16 Apply _ (omega arith) ∙ above (32 + j) 24 ReloadApply _ (omega arith) ∙ within (32 + j) 32 LoadHelped _ (omega arith) (omega arith) ∙ ap (λ (x : ℕ). Known (LoadHelped x)) (omega arith)
+known (LinkHelped j) h = past-singles (40 + j) (omega arith) ∙ above (40 + j) 16 Apply _ (omega arith) ∙ above (40 + j) 24 ReloadApply _ (omega arith) ∙ above (40 + j) 32 LoadHelped _ (omega arith) ∙ within (40 + j) 40 LinkHelped _ (omega arith) (omega arith) ∙ ap (λ (x : ℕ). Known (LinkHelped x)) (omega arith)
+known (Validate j) h = past-singles (48 + j) (omega arith) ∙ above (48 + j) 16 Apply _ (omega arith) ∙ above (48 + j) 24 ReloadApply _ (omega arith) ∙ above (48 + j) 32 LoadHelped _ (omega arith) ∙ above (48 + j) 40 LinkHelped _ (omega arith) ∙ within (48 + j) 48 Validate _ (omega arith) (omega arith) ∙ ap (λ (x : ℕ). Known (Validate x)) (omega arith)
+known (HandOver j) h = past-singles (56 + j) (omega arith) ∙ above (56 + j) 16 Apply _ (omega arith) ∙ above (56 + j) 24 ReloadApply _ (omega arith) ∙ above (56 + j) 32 LoadHelped _ (omega arith) ∙ above (56 + j) 40 LinkHelped _ (omega arith) ∙ above (56 + j) 48 Validate _ (omega arith) ∙ within (56 + j) 56 HandOver _ (omega arith) (omega arith) ∙ ap (λ (x : ℕ). Known (HandOver x)) (omega arith)
+known (ReloadHandOver j) h = past-singles (64 + j) (omega arith) ∙ above (64 + j) 16 Apply _ (omega arith) ∙ above (64 + j) 24 ReloadApply _ (omega arith) ∙ above (64 + j) 32 LoadHelped _ (omega arith) ∙ above (64 + j) 40 LinkHelped _ (omega arith) ∙ above (64 + j) 48 Validate _ (omega arith) ∙ above (64 + j) 56 HandOver _ (omega arith) ∙ within (64 + j) 64 ReloadHandOver _ (omega arith) (omega arith) ∙ ap (λ (x : ℕ). Known (ReloadHandOver x)) (omega arith)
+known (Release j) h = past-singles (72 + j) (omega arith) ∙ above (72 + j) 16 Apply _ (omega arith) ∙ above (72 + j) 24 ReloadApply _ (omega arith) ∙ above (72 + j) 32 LoadHelped _ (omega arith) ∙ above (72 + j) 40 LinkHelped _ (omega arith) ∙ above (72 + j) 48 Validate _ (omega arith) ∙ above (72 + j) 56 HandOver _ (omega arith) ∙ above (72 + j) 64 ReloadHandOver _ (omega arith) ∙ within (72 + j) 72 Release _ (omega arith) (omega arith) ∙ ap (λ (x : ℕ). Known (Release x)) (omega arith)
+known (ReloadRelease j) h = past-singles (80 + j) (omega arith) ∙ above (80 + j) 16 Apply _ (omega arith) ∙ above (80 + j) 24 ReloadApply _ (omega arith) ∙ above (80 + j) 32 LoadHelped _ (omega arith) ∙ above (80 + j) 40 LinkHelped _ (omega arith) ∙ above (80 + j) 48 Validate _ (omega arith) ∙ above (80 + j) 56 HandOver _ (omega arith) ∙ above (80 + j) 64 ReloadHandOver _ (omega arith) ∙ above (80 + j) 72 Release _ (omega arith) ∙ within (80 + j) 80 ReloadRelease _ (omega arith) (omega arith) ∙ ap (λ (x : ℕ). Known (ReloadRelease x)) (omega arith)
+
+-- Past the last range there is no phase.
+pub unknown : (k : ℕ) → 87 < k → phaseOf k ≡ Refused cause.Record
+unknown k h = past-singles k (omega arith) ∙ above k 16 Apply _ (omega arith) ∙ above k 24 ReloadApply _ (omega arith) ∙ above k 32 LoadHelped _ (omega arith) ∙ above k 40 LinkHelped _ (omega arith) ∙ above k 48 Validate _ (omega arith) ∙ above k 56 HandOver _ (omega arith) ∙ above k 64 ReloadHandOver _ (omega arith) ∙ above k 72 Release _ (omega arith) ∙ above k 80 ReloadRelease _ (omega arith)
+
+-- A number of a range is the range's start and the number of a task.
+pub placed : (first k : ℕ) → first ≤ k → k < first + 8 → (k ≡ first + (k - first)) × (k - first < 8)
+placed first k l h = (omega arith, omega arith)
+
+-- The number k is none of those below m.
+abbrev Apart : ℕ → ℕ → Type 0
+Apart k zero = Unit {0}
+Apart k (suc m) = Apart k m × (k ≡ m → ⊥)
+
+apart-above : (k m : ℕ) → Apart k m → m ≤ k
+apart-above k zero a = omega arith
+apart-above k (suc m) a = lt-of-le-ne (apart-above k m (a .0)) (λ e. a .1 (sym e))
+
+-- Between the single numbers and the ranges there is no phase.
+pub unused : (k : ℕ) → k < 16 → Apart k 15 → phaseOf k ≡ Refused cause.Record
+unfolding phaseOf
+unused k h a =
+    let above : 15 ≤ k = apart-above k 15 a in
+    let e : k ≡ 15 = omega arith in
+    ap phaseOf e
+
+-- What is read works for a task below n, if it is a phase.
+record Named (n : ℕ) (read : PhaseRead) : Type 0 where
+  works : (f : Phase) → read ≡ Known f → WorksBelow n f
+
+module _ {n : ℕ} where
+  choose : (b : Bool) (f : Phase) (other : PhaseRead) → (b ≡ true → WorksBelow n f) → Named n other → Named n (cond b (Known f) other)
+  choose true f other w r = record { works = λ g e. let same : f ≡ g = cc in subst (λ (x : Phase). WorksBelow n x) same (w refl) }
+  choose false f other w r = r
+
+  none : Named n (Refused cause.Record)
+  none = record { works = λ g e. absurd (let z : _≡_ {A = ℕ} 0 1 = cc in omega arith) }
+
+module _ (n k : ℕ) (h : namesTask n k ≡ true) where
+  inside : (first : ℕ) → 16 ≤ first → first % 8 ≡ 0 → leb first k && leb k (first + 7) ≡ true → k - first < n
+  unfolding namesTask
+  inside first l m t =
+      let low : first ≤ k = leb-true first k (and-left (leb first k) (leb k (first + 7)) t) in
+      let high : k ≤ first + 7 = leb-true k (first + 7) (and-right (leb first k) (leb k (first + 7)) t) in
+      let named : ltb (k % 8) n ≡ true = rw (le-ltb k 16 (omega arith)) at h in
+      omega (arith, ltb-true (k % 8) n named)
+
+  every : Named n (phaseOf k)
+  unfolding phaseOf
+  every =
+      (choose (eqb k 0) Idle _ (λ b. tt)
+      (choose (eqb k 1) ReadOnly _ (λ b. tt)
+      (choose (eqb k 2) Announce _ (λ b. tt)
+      (choose (eqb k 3) Poll _ (λ b. tt)
+      (choose (eqb k 4) LoadHead _ (λ b. tt)
+      (choose (eqb k 5) LinkHead _ (λ b. tt)
+      (choose (eqb k 6) LoadPriority _ (λ b. tt)
+      (choose (eqb k 7) LoadOwn _ (λ b. tt)
+      (choose (eqb k 8) LoadExit _ (λ b. tt)
+      (choose (eqb k 9) LinkExit _ (λ b. tt)
+      (choose (eqb k 10) ClearExit _ (λ b. tt)
+      (choose (eqb k 11) ReleaseExit _ (λ b. tt)
+      (choose (eqb k 12) Retract _ (λ b. tt)
+      (choose (eqb k 13) ClearHead _ (λ b. tt)
+      (choose (eqb k 14) ReloadClear _ (λ b. tt)
+      (choose (leb 16 k && leb k 23) (Apply (k - 16)) _ (inside 16 (omega arith) (omega arith))
+      (choose (leb 24 k && leb k 31) (ReloadApply (k - 24)) _ (inside 24 (omega arith) (omega arith))
+      (choose (leb 32 k && leb k 39) (LoadHelped (k - 32)) _ (inside 32 (omega arith) (omega arith))
+      (choose (leb 40 k && leb k 47) (LinkHelped (k - 40)) _ (inside 40 (omega arith) (omega arith))
+      (choose (leb 48 k && leb k 55) (Validate (k - 48)) _ (inside 48 (omega arith) (omega arith))
+      (choose (leb 56 k && leb k 63) (HandOver (k - 56)) _ (inside 56 (omega arith) (omega arith))
+      (choose (leb 64 k && leb k 71) (ReloadHandOver (k - 64)) _ (inside 64 (omega arith) (omega arith))
+      (choose (leb 72 k && leb k 79) (Release (k - 72)) _ (inside 72 (omega arith) (omega arith))
+      (choose (leb 80 k && leb k 87) (ReloadRelease (k - 80)) _ (inside 80 (omega arith) (omega arith)) none))))))))))))))))))))))))
+
+  -- A number that names a task below n is read as a phase that works for a task below n.
+  pub works : (f : Phase) → phaseOf k ≡ Known f → WorksBelow n f
+  works f e = every .works f e

@@ -1,0 +1,110 @@
+// The access of a task's next step. It follows from the table, the task's number and its record, before a cell is looked
+// at.
+use crate::access::Access;
+use crate::phase::Phase;
+use crate::record::Task;
+use crate::words;
+use cells::marks;
+use table::Shape;
+ghost use mathlib.Core.Path.{_≡_};
+ghost use Prim.Native.Nat.{_+_, _<_};
+ghost use Rattle.stepping.specs.Step.{planOf, readHead, readAnnouncement, swapHead, swapAnnouncement};
+
+// Cell 0 is the head.
+const HEAD: usize = 0;
+
+// The cell of a task's announcement.
+fn announcement_of(task: usize) -> usize
+    requires { ⌜ task < 65536 ⌝ }
+    ensures { λ r. ⌜ r ≡ task + 1 ⌝ }
+{
+    task + 1
+}
+
+fn read_head() -> Access
+    ensures { λ r. ⌜ r ≡ readHead ⌝ }
+{
+    Access::Read { cell: HEAD }
+}
+
+fn read_announcement(task: usize) -> Access
+    requires { ⌜ task < 65536 ⌝ }
+    ensures { λ r. ⌜ r ≡ readAnnouncement task ⌝ }
+{
+    Access::Read {
+        cell: announcement_of(task),
+    }
+}
+
+fn write_announcement(task: usize, written: u64) -> Access
+    requires { ⌜ task < 65536 ⌝ }
+    ensures { λ r. ⌜ r ≡ Access.Write (task + 1) written ⌝ }
+{
+    Access::Write {
+        cell: announcement_of(task),
+        written,
+    }
+}
+
+fn swap_head(own: Task, written: u64) -> Access
+    ensures { λ r. ⌜ r ≡ swapHead own written ⌝ }
+{
+    Access::Swap {
+        cell: HEAD,
+        compared: own.head,
+        written,
+    }
+}
+
+fn swap_announcement(task: u8, own: Task, written: u64) -> Access
+    ensures { λ r. ⌜ r ≡ swapAnnouncement task own written ⌝ }
+{
+    Access::Swap {
+        cell: announcement_of(task as usize),
+        compared: own.announcement,
+        written,
+    }
+}
+
+fn applied(file: &[u8], shape: Shape, own: Task, task: u8) -> Access
+    ensures { λ r. ⌜ r ≡ planOf (now (file .entry)) shape 0 own (Phase.Apply task) ⌝ }
+{
+    let operation = words::named_by(own.payload);
+    swap_head(
+        own,
+        words::applied_word(file, shape, own.head, task, operation),
+    )
+}
+
+// The access of the next step of a task.
+pub fn plan(file: &[u8], shape: Shape, task: usize, own: Task, phase: Phase) -> Access
+    requires { ⌜ task < 65536 ⌝ }
+    ensures { λ r. ⌜ r ≡ planOf (now (file .entry)) shape task own phase ⌝ }
+{
+    match phase {
+        Phase::Idle => read_head(),
+        Phase::ReadOnly => read_head(),
+        Phase::Announce => write_announcement(task, words::operation_word(own.operation)),
+        Phase::Poll => read_announcement(task),
+        Phase::LoadHead => read_head(),
+        Phase::LinkHead => swap_head(own, marks::add_mark(own.head, task)),
+        Phase::LoadPriority => read_announcement(own.priority as usize),
+        Phase::LoadOwn => read_announcement(task),
+        Phase::LoadExit => read_head(),
+        Phase::LinkExit => swap_head(own, marks::add_mark(own.head, task)),
+        Phase::ClearExit => swap_head(own, words::cleared_word(own.head)),
+        Phase::ReleaseExit => swap_head(own, marks::remove_mark(own.head, task)),
+        Phase::Retract => write_announcement(task, 0),
+        Phase::ClearHead => swap_head(own, words::cleared_word(own.head)),
+        Phase::ReloadClear => read_head(),
+        Phase::Apply(j) => applied(file, shape, own, j),
+        Phase::ReloadApply(_) => read_head(),
+        Phase::LoadHelped(j) => read_announcement(j as usize),
+        Phase::LinkHelped(j) => swap_announcement(j, own, marks::add_mark(own.announcement, task)),
+        Phase::Validate(_) => read_head(),
+        Phase::HandOver(j) => swap_announcement(j, own, words::response_word(own.head)),
+        Phase::ReloadHandOver(j) => read_announcement(j as usize),
+        Phase::Release(j) => swap_announcement(j, own, marks::remove_mark(own.announcement, task)),
+        Phase::ReloadRelease(j) => read_announcement(j as usize),
+    }
+}
