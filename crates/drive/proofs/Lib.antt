@@ -1,3 +1,5 @@
+pub mod Values
+pub mod TaskCalls
 pub mod Calls
 pub mod Starts
 pub mod Firsts

@@ -26,7 +26,7 @@ use denote.Laws.{Is, shows}
 use denote.Plain.{uint-vals, uint-tells, uint-makes}
 use denote.Builtin.{u8, usize}
 use denote.Ref.{RefT}
-use denote.Slice.{sliceVal, slice-vals, ShrSlice, MutSlice, Room, finally, heres, codedHoleys, mut-slice-tells, shr-slice-tells, shr-slice-copy, res-finally}
+use denote.Slice.{slice-vals, ShrSlice, MutSlice, Room, finally, heres, codedHoleys, mut-slice-tells, shr-slice-tells, shr-slice-copy, res-finally}
 use denote.Signature.{plain}
 use denote.Steps.{owned, peeks, heard, nothing}
 use denote.Enum.Laws as EL
@@ -38,6 +38,7 @@ use denote.Triple.Clauses.{ensured, lasts}
 use denote.Triple.Table.{entered, cited}
 use denote.Triple.Walked.{says, Stays, gave-slice, stay-none, stay-none-slice, walkOf, AllGo, goes-none, goes-none-slice, goes-gave-slice, Walks, ends-at, walked, walk-meets}
 use denote.Exit.{yes}
+use Rattle.drive.proofs.Values.{slice, OwnFile}
 use Rattle.stepping.specs.declared.record.Task.{Task}
 use Rattle.stepping.proofs.record.Task as T
 use Rattle.stepping.specs.declared.call.BeginAnswer.{BeginAnswer}
@@ -79,26 +80,17 @@ module _ {M : Type 1} (𝓤 : URA M) (H : Heap 𝓤) (A : Atoms 𝓤) (W : Given
   abbrev x : Arg
   x = (file, (row, (t, (w, tt))))
 
-  -- the machine values of the slices
-  abbrev s₀ : Val
-  s₀ = sliceVal (file .ptr) (length (file .now))
-
-  abbrev s : Val
-  s = sliceVal (row .ptr) (length (row .now))
-
+  -- the machine values of the arguments
   abbrev at : List Val × (List Val × (List Val × (List Val × Unit {0})))
-  at = (s₀ ∷ [], (s ∷ [], (vint w64 t ∷ [], (vint w64 w ∷ [], tt))))
+  at = (slice file ∷ [], (slice row ∷ [], (vint w64 t ∷ [], (vint w64 w ∷ [], tt))))
 
   abbrev Post : Val → SProp 𝓤
   Post = walkOf 𝓤 H A fn.ended stayed (fn.clauses 𝓤 H A at-mem run) .post (((κ₀, (κ₁, tt)), (q₀, (q₁, tt)), tt, x, at), tt)
 
-  abbrev OwnT : Fml
-  OwnT = ShrSlice (named 0) κ₀ u8 .own file (s₀ ∷ [])
-
   exits : (r : BeginAnswer) (v : Val) (ys′ : List Task) → BeginSaid (file .now) (row .now) t w ys′ r → length ys′ ≡ length (row .now) → t < 2 ^ 64 → w < 2 ^ 64
-      → ent 𝓤 (⋆ 𝓤 H A (‵ (flft κ₀ q₀) ∷ ‵ (flft κ₁ q₁) ∷ ‵ OwnT ∷ ‵ (finally T.the-row (row .name) ys′) ∷ ‵ (N.the-row .own r (v ∷ [])) ∷ [])) (Post v)
+      → ent 𝓤 (⋆ 𝓤 H A (‵ (flft κ₀ q₀) ∷ ‵ (flft κ₁ q₁) ∷ ‵ (OwnFile κ₀ file) ∷ ‵ (finally T.the-row (row .name) ys′) ∷ ‵ (N.the-row .own r (v ∷ [])) ∷ [])) (Post v)
   exits r v ys′ said ly gt gw =
-      qed W (‵ (flft κ₀ q₀) ∷ ‵ (flft κ₁ q₁) ∷ ‵ OwnT ∷ ‵ (finally T.the-row (row .name) ys′) ∷ ‵ (N.the-row .own r (v ∷ [])) ∷ []) ∵
+      qed W (‵ (flft κ₀ q₀) ∷ ‵ (flft κ₁ q₁) ∷ ‵ (OwnFile κ₀ file) ∷ ‵ (finally T.the-row (row .name) ys′) ∷ ‵ (N.the-row .own r (v ∷ [])) ∷ []) ∵
       suffices ! _ (ends-at 𝓤 H A fn.ended stayed (fn.clauses 𝓤 H A at-mem run) W (((κ₀, (κ₁, tt)), (q₀, (q₁, tt)), tt, x, at), tt) v r (tt, (ys′, (tt, (tt, tt)))) (tt, (ly, (tt, (tt, tt))))) $
       says ! said $ nothing ! $ move ! (2 ∷ 0 ∷ []) $ join ! $ move ! (1 ∷ 0 ∷ []) $ join ! $ frame ! $ owned ! usize (Is usize) (uint-makes 𝓤 H A W w64) t _ (refl, gt) $
       owned ! usize (Is usize) (uint-makes 𝓤 H A W w64) w _ (refl, gw) $ nothing ! $ move ! (1 ∷ 0 ∷ []) $ fjoin ! $ move ! (1 ∷ 0 ∷ []) $ fjoin ! $ move ! (2 ∷ 0 ∷ []) $
@@ -109,7 +101,7 @@ module _ {M : Type 1} (𝓤 : URA M) (H : Heap 𝓤) (A : Atoms 𝓤) (W : Given
   args = (file, (length (row .now), (t, (w, tt))))
 
   abbrev passed : List Val × (List Val × (List Val × (List Val × Unit {0})))
-  passed = (s₀ ∷ [], (vint w64 (length (row .now)) ∷ [], (vint w64 t ∷ [], (vint w64 w ∷ [], tt))))
+  passed = (slice file ∷ [], (vint w64 (length (row .now)) ∷ [], (vint w64 t ∷ [], (vint w64 w ∷ [], tt))))
 
   abbrev to-past : Past 𝓤 H A at-mem run .Ghost
   to-past = (((κ₀, tt), (q₀, tt), tt, args, passed), tt)
@@ -132,17 +124,18 @@ module _ {M : Type 1} (𝓤 : URA M) (H : Heap 𝓤) (A : Atoms 𝓤) (W : Given
 
   module _ (C : Calls 𝓤 H) (Λ : Loops 𝓤 H) (fm : FmC 𝓤 H (W .laws) C) (known-p : Triple 𝓤 (C #drive·begin-past) (Past 𝓤 H A at-mem run)) (known-i : Triple 𝓤 (C #drive·begin-in) (Inside 𝓤 H A at-mem run)) where
     walk : Room u8 (length (file .now)) → Room T.the-row (length (row .now)) → t < 2 ^ 64 → w < 2 ^ 64
-        → ent 𝓤 (onEntry 𝓤 H A fn.signature (κ₀, (κ₁, tt)) (q₀, (q₁, tt)) x at) (WpFn 𝓤 H C Λ code.function (s₀ ∷ s ∷ vint w64 t ∷ vint w64 w ∷ []) Post)
+        → ent 𝓤 (onEntry 𝓤 H A fn.signature (κ₀, (κ₁, tt)) (q₀, (q₁, tt)) x at) (WpFn 𝓤 H C Λ code.function (slice file ∷ slice row ∷ vint w64 t ∷ vint w64 w ∷ []) Post)
     walk room₀ room gt gw =
         qed W ((‵ (flft κ₀ q₀) ⊛ ‵ (flft κ₁ q₁) ⊛ ‵ ftrue) ∷ ‵ Owned ∷ []) ∵
-        move ! (1 ∷ []) $ fsplit ! $ use1 W (‵ OwnT ⊛ ‵ OwnT) (shr-slice-copy 𝓤 H A W (named 0) κ₀ u8 .twice file (s₀ ∷ [])) $ split ! $ move ! (2 ∷ []) $ fsplit ! $
-        move ! (4 ∷ []) $ split ! $ move ! (1 ∷ []) $ split ! $ keep ! (5 ∷ 6 ∷ 3 ∷ 2 ∷ 0 ∷ []) $ enter ! C Λ code.function (s₀ ∷ s ∷ vint w64 t ∷ vint w64 w ∷ []) _ $
+        move ! (1 ∷ []) $ fsplit ! $ use1 W (‵ (OwnFile κ₀ file) ⊛ ‵ (OwnFile κ₀ file)) (shr-slice-copy 𝓤 H A W (named 0) κ₀ u8 .twice file (slice file ∷ [])) $ split ! $ move ! (2 ∷ []) $ fsplit ! $
+        move ! (4 ∷ []) $ split ! $ move ! (1 ∷ []) $ split ! $ keep ! (5 ∷ 6 ∷ 3 ∷ 2 ∷ 0 ∷ []) $ enter ! C Λ code.function (slice file ∷ slice row ∷ vint w64 t ∷ vint w64 w ∷ []) _ $
         alloc1 ! (λ l0. alloc1 ! (λ l1. alloc1 ! (λ l2. alloc1 ! (λ l3. alloc1 ! (λ l4. alloc1 ! (λ l5. alloc1 ! (λ l6. alloc1 ! (λ l7. alloc1 ! (λ l8. alloc0 ! $ params1 ! $
         pass1 ! (init ! 14 refl (tt, (tt, (record { fits = room₀ .0 }, tt)))) $ pass1 ! (init ! 12 refl (tt, (tt, (record { fits = room .0 }, tt)))) $
         pass1 ! (init ! 10 refl (tt, record { fits = gt })) $ pass1 ! (init ! 8 refl (tt, record { fits = gw })) $ pass0 ! $
         assigns ! (of-opd ! (load ! (from ! (fld ! refl (stop !))) (look-in ! 12 (sub ! 1 refl (whole !))))) (from ! (stop !)) (init ! 6 refl (tt, record { fits = room .0 })) $
-        assigns ! (bin ! (load ! (from ! (stop !)) (look ! 6 refl)) (load ! (from ! (stop !)) (look ! 10 refl)) tt) (from ! (stop !)) (init ! 4 refl (tt, tt)) $ first ! $
-        branches ! (load ! (from ! (stop !)) (look ! 4 refl))
+        assigns ! (bin ! (load ! (from ! (stop !)) (look ! 6 refl)) (load ! (from ! (stop !)) (look ! 10 refl)) tt) (from ! (stop !)) (init ! 4 refl (tt, tt)) $
+        -- [_8 to _0; the file, to pass on; the file; the row; token 0; token 1]
+        first ! $ branches ! (load ! (from ! (stop !)) (look ! 4 refl))
         (λ past.
         owned ! usize (Is usize) (uint-makes 𝓤 H A W w64) t _ (refl, gt) $ owned ! usize (Is usize) (uint-makes 𝓤 H A W w64) w _ (refl, gw) $
         owned ! usize (Is usize) (uint-makes 𝓤 H A W w64) (length (row .now)) _ (refl, room .0) $ nothing ! $ move ! (2 ∷ 0 ∷ []) $ fjoin ! $ move ! (2 ∷ 0 ∷ []) $ fjoin ! $
@@ -153,10 +146,12 @@ module _ {M : Type 1} (𝓤 : URA M) (H : Heap 𝓤) (A : Atoms 𝓤) (W : Given
         use1 W (some (λ (zs : Unit {0} × (Unit {0} × (Unit {0} × (Unit {0} × Unit {0})))). ‵ (lasts past-end.ended (κ₀, tt) args zs) ⊛ raw (fact 𝓤 (r ≡ beginTask (file .now) (length (row .now)) t w (idleTask 0) .answer)))) (id⊢ 𝓤 _) $
         pick ! (λ zs. split ! $ move ! (1 ∷ []) $ heard ! (r ≡ beginTask (file .now) (length (row .now)) t w (idleTask 0) .answer) (λ e. drop ! $ split ! $ move ! (1 ∷ []) $
         peeks ! N.the-row (Is N.the-row) (shows 𝓤 H A N.the-row) r (v ∷ []) (λ is.
-        land ! (from ! (stop !)) (init ! 18 refl (EL.lawful N.the-type N′.the-laws 𝓤 H A W tt .typed r _ is .0)) $ returns-within ! Post refl (look ! 18 refl) $ forget ! 6 refl $
-        forget ! 8 refl $ forget ! 10 refl $ forget ! 12 refl $ forget ! 14 refl $ forget ! 16 refl $ forget ! 18 refl $ move ! (18 ∷ 19 ∷ []) $ free1 ! $ move ! (16 ∷ 17 ∷ []) $
-        free1 ! $ move ! (14 ∷ 15 ∷ []) $ free1 ! $ move ! (12 ∷ 13 ∷ []) $ free1 ! $ move ! (10 ∷ 11 ∷ []) $ free1 ! $ move ! (8 ∷ 9 ∷ []) $ free1 ! $ move ! (6 ∷ 7 ∷ []) $
-        free1 ! $ move ! (4 ∷ 5 ∷ []) $ free1 ! $ move ! (2 ∷ 3 ∷ []) $ free1 ! $ free0 ! $ move ! (3 ∷ []) $ fsplit ! $ drop ! $ fsplit ! $ move ! (1 ∷ []) $ drop ! $
+        land ! (from ! (stop !)) (init ! 18 refl (EL.lawful N.the-type N′.the-laws 𝓤 H A W tt .typed r _ is .0)) $
+        -- [the result; tokens; _8 to _0; the file; the row; token 1]
+        returns-within ! Post refl (look ! 18 refl) $ forget ! 6 refl $ forget ! 8 refl $ forget ! 10 refl $ forget ! 12 refl $ forget ! 14 refl $ forget ! 16 refl $
+        forget ! 18 refl $ move ! (18 ∷ 19 ∷ []) $ free1 ! $ move ! (16 ∷ 17 ∷ []) $ free1 ! $ move ! (14 ∷ 15 ∷ []) $ free1 ! $ move ! (12 ∷ 13 ∷ []) $ free1 ! $
+        move ! (10 ∷ 11 ∷ []) $ free1 ! $ move ! (8 ∷ 9 ∷ []) $ free1 ! $ move ! (6 ∷ 7 ∷ []) $ free1 ! $ move ! (4 ∷ 5 ∷ []) $ free1 ! $ move ! (2 ∷ 3 ∷ []) $ free1 ! $
+        free0 ! $ move ! (3 ∷ []) $ fsplit ! $ drop ! $ fsplit ! $ move ! (1 ∷ []) $ drop ! $
         use1 W (‵ (fres (row .name) (codedHoleys T.the-row .code (heres T.the-row (row .now))))) (W .names .obs-res (row .name) (codedHoleys T.the-row .code (heres T.the-row (row .now)))) $
         use1 W (‵ (finally T.the-row (row .name) (row .now))) (res-finally 𝓤 H A W (named 1) κ₁ T.the-row (row .name) (row .now)) $ move ! (2 ∷ []) $ split ! $
         keep ! (0 ∷ 5 ∷ 4 ∷ 2 ∷ 3 ∷ []) $ by ! (exits r v (row .now) (begin-past (file .now) (row .now) t w r (leb→le (length (row .now)) t past) e) refl gt gw)))))))
@@ -174,11 +169,12 @@ module _ {M : Type 1} (𝓤 : URA M) (H : Heap 𝓤) (A : Atoms 𝓤) (W : Given
         use1 W (some (λ (zs : Unit {0} × (List Task × (Unit {0} × (Unit {0} × Unit {0})))). ‵ (lasts inside.ended (κ₀, (κ₁, tt)) x zs) ⊛ raw (fact 𝓤 (BeginSaid (file .now) (row .now) t w (zs .1 .0) r)))) (id⊢ 𝓤 _) $
         pick ! (λ zs. split ! $ move ! (1 ∷ []) $ heard ! (BeginSaid (file .now) (row .now) t w (zs .1 .0) r) (λ e. fsplit ! $ drop ! $ fsplit ! $ fsplit ! $ move ! (1 ∷ []) $
         feqL ! (λ ly. move ! (1 ∷ []) $ drop ! $ move ! (1 ∷ []) $ split ! $ move ! (1 ∷ []) $ peeks ! N.the-row (Is N.the-row) (shows 𝓤 H A N.the-row) r (v ∷ []) (λ is.
-        land ! (from ! (stop !)) (init ! 19 refl (EL.lawful N.the-type N′.the-laws 𝓤 H A W tt .typed r _ is .0)) $ returns ! (look ! 19 refl) $ forget ! 3 refl $
-        forget ! 5 refl $ forget ! 7 refl $ forget ! 9 refl $ forget ! 11 refl $ forget ! 13 refl $ forget ! 15 refl $ forget ! 17 refl $ forget ! 19 refl $
-        move ! (19 ∷ 20 ∷ []) $ free1 ! $ move ! (17 ∷ 18 ∷ []) $ free1 ! $ move ! (15 ∷ 16 ∷ []) $ free1 ! $ move ! (13 ∷ 14 ∷ []) $ free1 ! $ move ! (11 ∷ 12 ∷ []) $ free1 ! $
-        move ! (9 ∷ 10 ∷ []) $ free1 ! $ move ! (7 ∷ 8 ∷ []) $ free1 ! $ move ! (5 ∷ 6 ∷ []) $ free1 ! $ move ! (3 ∷ 4 ∷ []) $ free1 ! $ free0 ! $ move ! (1 ∷ []) $ split ! $
-        move ! (1 ∷ []) $ split ! $ keep ! (2 ∷ 0 ∷ 5 ∷ 4 ∷ 3 ∷ []) $ by ! (exits r v (zs .1 .0) e ly gt gw)))))))))))))))))
+        land ! (from ! (stop !)) (init ! 19 refl (EL.lawful N.the-type N′.the-laws 𝓤 H A W tt .typed r _ is .0)) $
+        -- [the result; tokens; the row's last list; _8 to _0; the file]
+        returns ! (look ! 19 refl) $ forget ! 3 refl $ forget ! 5 refl $ forget ! 7 refl $ forget ! 9 refl $ forget ! 11 refl $ forget ! 13 refl $ forget ! 15 refl $
+        forget ! 17 refl $ forget ! 19 refl $ move ! (19 ∷ 20 ∷ []) $ free1 ! $ move ! (17 ∷ 18 ∷ []) $ free1 ! $ move ! (15 ∷ 16 ∷ []) $ free1 ! $ move ! (13 ∷ 14 ∷ []) $
+        free1 ! $ move ! (11 ∷ 12 ∷ []) $ free1 ! $ move ! (9 ∷ 10 ∷ []) $ free1 ! $ move ! (7 ∷ 8 ∷ []) $ free1 ! $ move ! (5 ∷ 6 ∷ []) $ free1 ! $ move ! (3 ∷ 4 ∷ []) $
+        free1 ! $ free0 ! $ move ! (1 ∷ []) $ split ! $ move ! (1 ∷ []) $ split ! $ keep ! (2 ∷ 0 ∷ 5 ∷ 4 ∷ 3 ∷ []) $ by ! (exits r v (zs .1 .0) e ly gt gw)))))))))))))))))
 
 module _ {M : Type 1} (𝓤 : URA M) (H : Heap 𝓤) (A : Atoms 𝓤) (W : Given 𝓤 H A) (at-mem : Memory → SProp 𝓤) (run : Routine → Fun 𝓤) where
   fn-walks : (C : Calls 𝓤 H) (Λ : Loops 𝓤 H) → FmC 𝓤 H (W .laws) C → Triple 𝓤 (C #drive·begin-past) (Past 𝓤 H A at-mem run) → Triple 𝓤 (C #drive·begin-in) (Inside 𝓤 H A at-mem run)

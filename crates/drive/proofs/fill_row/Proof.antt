@@ -1,7 +1,7 @@
 -- `drive::fill_row` meets its contract: a walk of its MIR, by hand, with a loop. Each turn opens the row, stores an idle record at one place and closes the row.
 -- Assumes nothing.
 use mathlib.Core.Path.{_≡_, refl, ap, sym, subst, _∙_}
-use mathlib.Core.Bool.{Bool, true, false}
+use mathlib.Core.Bool.{Bool}
 use Prim.Native.Nat.{ℕ, _<_, _≤_, _^_, _*_, _+_, _-_}
 use mathlib.Core.List.{[], _∷_, List}
 use mathlib.Core.WellFounded.{WellFounded, InvImage·wf}
@@ -23,7 +23,7 @@ use prog.Wp.{Heap, WpFn, Tables, afterTurn}
 use ghost.Atoms.{Atoms, sem}
 use contract.Monad.{Fun, fact}
 use contract.Running.{givenOf, tables, tablesOf}
-use types.Kit.{Given, Item, ‵, raw, _⊛_, ⋆, some, later, Goal, atRet, Seq, _$_, _∵_, !, qed, by, move, keep, drop, use0, use1, split, join, pick, fsplit, fjoin, feqI, suffices, frame, await, rewrite, done}
+use types.Kit.{Given, Item, ‵, raw, _⊛_, ⋆, some, later, atRet, _$_, _∵_, !, qed, by, move, keep, drop, use0, use1, split, join, pick, fsplit, fjoin, feqI, suffices, frame, await, rewrite, done}
 use types.Run.{look, init, store, store-raw, forget, stop, hop, fld, from, load, lit, unit-lit, bin, of-opd, and-then, no-more, assigns, assigns-last, land, first, blocks, loops, again, stays, leaves-loop, exec, returns, enter, alloc1, alloc0, params1, pass1, pass0, free1, free0}
 use types.Part.{whole, sub, look-in}
 use sound.WpLaws.{fmOf, WpFn-mono}
@@ -48,6 +48,7 @@ use denote.Triple.Clauses.{ensured, lasts}
 use denote.Triple.Table.{entered, cited}
 use denote.Triple.Walked.{says, needs, Stays, stay-slice, stay-none, walkOf, AllGo, goes-none, goes-slice, Walks, ends-at, walked, walk-meets}
 use denote.Exit.{yes}
+use Rattle.drive.proofs.Values.{mach, decide}
 use Rattle.stepping.specs.declared.record.Task.{Task}
 use Rattle.stepping.proofs.record.Task as T
 use Rattle.stepping.proofs.record.Task.Laws as T′
@@ -86,20 +87,11 @@ next k ys few t h own e = record { i = t .i + 1; zs = set (t .zs) (t .i) own; be
 filled-whole : (k : ℕ) (ys : List Task) (t : Turn k ys) → k ≤ t .i → t .zs ≡ filledTo k ys
 filled-whole k ys t h = let all : t .i ≡ k = omega (arith, t .below) in t .filled ∙ ap (λ (i : ℕ). filledTo i ys) all
 
--- a walk by cases on a test
-decide : {M : Type 1} {𝓤 : URA M} {H : Heap 𝓤} {A : Atoms 𝓤} {K : Type 0} {W : Given 𝓤 H A} {Γ : List (Item 𝓤)} {G : Goal 𝓤 H} (c : Bool) → (c ≡ true → Seq K W Γ G) → (c ≡ false → Seq K W Γ G) → Seq K W Γ G
-decide true f g = f refl
-decide false f g = g refl
-
 abbrev Arg : Type 0
 Arg = RefT (List Task) × (ℕ × Unit {0})
 
 abbrev stayed : Stays (fn.ended .signature .params) (fn.ended .kept)
 stayed = (stay-slice (0 ∷ []) tt (plain (λ _. T.the-row)), (stay-none (λ _. usize) yes, tt))
-
--- the machine value of a record
-abbrev mach : Task → Val
-mach h = only (LL.vals T.the-type T′.the-laws h)
 
 module _ {M : Type 1} (𝓤 : URA M) (H : Heap 𝓤) (A : Atoms 𝓤) (at-mem : Memory → SProp 𝓤) (run : Routine → Fun 𝓤) where
   -- the contract that the walk cites
@@ -153,6 +145,7 @@ module _ {M : Type 1} (𝓤 : URA M) (H : Heap 𝓤) (A : Atoms 𝓤) (W : Given
       alloc1 ! (λ l6. alloc1 ! (λ l7. alloc0 ! $ params1 ! $ pass1 ! (init ! 12 refl (tt, (tt, (record { fits = room .0 }, tt)))) $
       pass1 ! (init ! 10 refl (tt, record { fits = gk })) $ pass0 ! $ assigns ! (of-opd ! (lit ! tt)) (from ! (stop !)) (init ! 8 refl (tt, record { fits = lit< tt })) $
       move ! (16 ∷ 17 ∷ 18 ∷ []) $ first ! $ blocks ! $ loops ! 𝓣 (Nearer k ys) (Nearer-wf k ys) (At l0 l1 l2 l3 l4 l5 l6 l7) (λ t.
+      -- [obs; the borrow; token 0; _7 to _0]
       assigns ! (bin ! (load ! (from ! (stop !)) (look ! 11 refl)) (load ! (from ! (stop !)) (look ! 13 refl)) tt) (from ! (stop !)) (init ! 9 refl (tt, tt)) $
       decide (ltb (t .i) k)
       (λ e.
@@ -174,6 +167,7 @@ module _ {M : Type 1} (𝓤 : URA M) (H : Heap 𝓤) (A : Atoms 𝓤) (W : Given
       assigns ! (bin ! (load ! (from ! (fld ! refl (stop !))) (look-in ! 15 (sub ! 0 refl (whole !)))) (load ! (from ! (stop !)) (look ! 5 refl)) tt) (from ! (stop !)) (init ! 3 refl (tt, tt)) $
       rewrite ! 3 (λ (p : ℕ). ‵ (fat fullShare tyPtr l7 0 (vptr b p))) (sym (place-is 32 o (t .i))) refl $ opens-slice ! tt T.the-row (t .zs) b o $
       elem-out ! T.the-row (Is T.the-row) (shows 𝓤 H A T.the-row) (LL.vals T.the-type T′.the-laws) (LL.tells T.the-type T′.the-laws) fullShare (t .zs) (t .i) (idleTask 0) b o within (λ _.
+      -- [the record; what it owns; the others; the open borrow; obs; auth; _7 to _0]
       assigns ! (of-opd ! (load ! (from ! (stop !)) (look ! 10 refl))) (from ! (hop ! (look ! 6 refl) (stop !))) (store-raw ! 0 refl (LL.lawful T.the-type T′.the-laws 𝓤 H A W .typed r _ is′ .0)) $
       move ! (1 ∷ []) $ drop ! $ owned ! T.the-row (Is T.the-row) (LL.makes T.the-type T′.the-plain 𝓤 H A) r (mach r ∷ []) is′ $ move ! (1 ∷ 0 ∷ 2 ∷ []) $
       elem-put ! T.the-row fullShare (t .zs) (t .i) r (mach r ∷ []) b o within $ closes-slice ! tt T.the-row (t .zs) (set (t .zs) (t .i) r) (length-set (t .zs) (t .i) r) b o $

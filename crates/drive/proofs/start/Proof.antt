@@ -26,7 +26,7 @@ use denote.Laws.{Is, shows}
 use denote.Plain.{Nothing, nothing-lawful, uint-tells, uint-makes, uint-lawful}
 use denote.Builtin.{u8, u64, usize}
 use denote.Ref.{RefT}
-use denote.Slice.{sliceVal, slice-vals, ShrSlice, MutSlice, Room, finally, mut-slice-tells, shr-slice-tells, shr-slice-copy}
+use denote.Slice.{slice-vals, ShrSlice, MutSlice, Room, finally, mut-slice-tells, shr-slice-tells, shr-slice-copy}
 use denote.Signature.{plain}
 use denote.Steps.{owned, peeks, heard, nothing, only}
 use denote.Enum.Laws as EL
@@ -38,6 +38,7 @@ use denote.Triple.Clauses.{ensured, lasts}
 use denote.Triple.Table.{entered, cited}
 use denote.Triple.Walked.{says, Stays, gave-slice, stay-none-slice, walkOf, AllGo, goes-none-slice, goes-gave-slice, Walks, ends-at, walked, walk-meets}
 use denote.Exit.{yes}
+use Rattle.drive.proofs.Values.{slice, OwnFile}
 use Rattle.stepping.specs.declared.record.Task.{Task}
 use Rattle.stepping.proofs.record.Task as T
 use Rattle.stepping.specs.declared.call.StartAnswer.{StartAnswer}
@@ -95,29 +96,17 @@ module _ {M : Type 1} (𝓤 : URA M) (H : Heap 𝓤) (A : Atoms 𝓤) (W : Given
   abbrev x : Arg
   x = (file, (cells, (row, tt)))
 
-  -- the machine values of the slices
-  abbrev s₀ : Val
-  s₀ = sliceVal (file .ptr) (length (file .now))
-
-  abbrev s₁ : Val
-  s₁ = sliceVal (cells .ptr) (length (cells .now))
-
-  abbrev s : Val
-  s = sliceVal (row .ptr) (length (row .now))
-
+  -- the machine values of the arguments
   abbrev at : List Val × (List Val × (List Val × Unit {0}))
-  at = (s₀ ∷ [], (s₁ ∷ [], (s ∷ [], tt)))
+  at = (slice file ∷ [], (slice cells ∷ [], (slice row ∷ [], tt)))
 
   abbrev Post : Val → SProp 𝓤
   Post = walkOf 𝓤 H A fn.ended stayed (fn.clauses 𝓤 H A at-mem run) .post (((κ₀, (κ₁, (κ₂, tt))), (q₀, (q₁, (q₂, tt))), tt, x, at), tt)
 
-  abbrev OwnT : Fml
-  OwnT = ShrSlice (named 0) κ₀ u8 .own file (s₀ ∷ [])
-
   exits : (r : StartAnswer) (v : Val) (cs′ : List ℕ) (ys′ : List Task) → StartSaid (file .now) (cells .now) (row .now) cs′ ys′ r → length cs′ ≡ length (cells .now) → length ys′ ≡ length (row .now)
-      → ent 𝓤 (⋆ 𝓤 H A (‵ (flft κ₀ q₀) ∷ ‵ (flft κ₁ q₁) ∷ ‵ (flft κ₂ q₂) ∷ ‵ OwnT ∷ ‵ (finally u64 (cells .name) cs′) ∷ ‵ (finally T.the-row (row .name) ys′) ∷ ‵ (N.the-row .own r (v ∷ [])) ∷ [])) (Post v)
+      → ent 𝓤 (⋆ 𝓤 H A (‵ (flft κ₀ q₀) ∷ ‵ (flft κ₁ q₁) ∷ ‵ (flft κ₂ q₂) ∷ ‵ (OwnFile κ₀ file) ∷ ‵ (finally u64 (cells .name) cs′) ∷ ‵ (finally T.the-row (row .name) ys′) ∷ ‵ (N.the-row .own r (v ∷ [])) ∷ [])) (Post v)
   exits r v cs′ ys′ said lc ly =
-      qed W (‵ (flft κ₀ q₀) ∷ ‵ (flft κ₁ q₁) ∷ ‵ (flft κ₂ q₂) ∷ ‵ OwnT ∷ ‵ (finally u64 (cells .name) cs′) ∷ ‵ (finally T.the-row (row .name) ys′) ∷ ‵ (N.the-row .own r (v ∷ [])) ∷ []) ∵
+      qed W (‵ (flft κ₀ q₀) ∷ ‵ (flft κ₁ q₁) ∷ ‵ (flft κ₂ q₂) ∷ ‵ (OwnFile κ₀ file) ∷ ‵ (finally u64 (cells .name) cs′) ∷ ‵ (finally T.the-row (row .name) ys′) ∷ ‵ (N.the-row .own r (v ∷ [])) ∷ []) ∵
       suffices ! _ (ends-at 𝓤 H A fn.ended stayed (fn.clauses 𝓤 H A at-mem run) W (((κ₀, (κ₁, (κ₂, tt))), (q₀, (q₁, (q₂, tt))), tt, x, at), tt) v r (tt, (cs′, (ys′, tt))) (tt, (lc, (ly, tt)))) $
       says ! said $ nothing ! $ move ! (3 ∷ 0 ∷ []) $ join ! $ move ! (2 ∷ 0 ∷ []) $ join ! $ move ! (1 ∷ 0 ∷ []) $ join ! $ frame ! $ nothing ! $ move ! (3 ∷ 0 ∷ []) $
       fjoin ! $ move ! (2 ∷ 0 ∷ []) $ fjoin ! $ move ! (1 ∷ 0 ∷ []) $ fjoin ! $ frame ! $ done !
@@ -127,7 +116,7 @@ module _ {M : Type 1} (𝓤 : URA M) (H : Heap 𝓤) (A : Atoms 𝓤) (W : Given
   cells-args = (file, (cells, (length (row .now), tt)))
 
   abbrev cells-passed : List Val × (List Val × (List Val × Unit {0}))
-  cells-passed = (s₀ ∷ [], (s₁ ∷ [], (vint w64 (length (row .now)) ∷ [], tt)))
+  cells-passed = (slice file ∷ [], (slice cells ∷ [], (vint w64 (length (row .now)) ∷ [], tt)))
 
   abbrev to-cells : Cells 𝓤 H A at-mem run .Ghost
   to-cells = (((κ₀, (κ₁, tt)), (q₀, (q₁, tt)), tt, cells-args, cells-passed), tt)
@@ -149,22 +138,22 @@ module _ {M : Type 1} (𝓤 : URA M) (H : Heap 𝓤) (A : Atoms 𝓤) (W : Given
 
   -- what `fill_row` takes
   abbrev to-fill : ℕ → Fill 𝓤 H A at-mem run .Ghost
-  to-fill m = (((κ₂, tt), (q₂, tt), tt, (row, (m, tt)), (s ∷ [], (vint w64 m ∷ [], tt))), tt)
+  to-fill m = (((κ₂, tt), (q₂, tt), tt, (row, (m, tt)), (slice row ∷ [], (vint w64 m ∷ [], tt))), tt)
 
   abbrev FillOwned : ℕ → Fml
-  FillOwned m = owns (MutSlice (named 0) κ₂ T.the-row ∷ usize ∷ []) (row, (m, tt)) (s ∷ [], (vint w64 m ∷ [], tt))
+  FillOwned m = owns (MutSlice (named 0) κ₂ T.the-row ∷ usize ∷ []) (row, (m, tt)) (slice row ∷ [], (vint w64 m ∷ [], tt))
 
   goes-fill : (m : ℕ) → (m ≤ length (row .now)) × (m ≤ 8) → ent 𝓤 (sep 𝓤 (sep 𝓤 (A .lft κ₂ q₂) (sem 𝓤 H A ftrue)) (sem 𝓤 H A (FillOwned m))) (Fill 𝓤 H A at-mem run .pre (to-fill m))
   goes-fill m fits = qed W ((‵ (flft κ₂ q₂) ⊛ ‵ ftrue) ∷ ‵ (FillOwned m) ∷ []) ∵ says ! fits $ frame ! $ done !
 
   module _ (C : Calls 𝓤 H) (Λ : Loops 𝓤 H) (fm : FmC 𝓤 H (W .laws) C) (known-s : Triple 𝓤 (C #drive·start-cells) (Cells 𝓤 H A at-mem run)) (known-c : Triple 𝓤 (C #drive·idle-count) (Count 𝓤 H A at-mem run)) (known-f : Triple 𝓤 (C #drive·fill-row) (Fill 𝓤 H A at-mem run)) where
     walk : Room u8 (length (file .now)) → Room u64 (length (cells .now)) → Room T.the-row (length (row .now))
-        → ent 𝓤 (onEntry 𝓤 H A fn.signature (κ₀, (κ₁, (κ₂, tt))) (q₀, (q₁, (q₂, tt))) x at) (WpFn 𝓤 H C Λ code.function (s₀ ∷ s₁ ∷ s ∷ []) Post)
+        → ent 𝓤 (onEntry 𝓤 H A fn.signature (κ₀, (κ₁, (κ₂, tt))) (q₀, (q₁, (q₂, tt))) x at) (WpFn 𝓤 H C Λ code.function (slice file ∷ slice cells ∷ slice row ∷ []) Post)
     walk room₀ room₁ room =
         qed W ((‵ (flft κ₀ q₀) ⊛ ‵ (flft κ₁ q₁) ⊛ ‵ (flft κ₂ q₂) ⊛ ‵ ftrue) ∷ ‵ (owns (ShrSlice (named 0) κ₀ u8 ∷ MutSlice (named 1) κ₁ u64 ∷ MutSlice (named 2) κ₂ T.the-row ∷ []) x at) ∷ []) ∵
-        move ! (1 ∷ []) $ fsplit ! $ use1 W (‵ OwnT ⊛ ‵ OwnT) (shr-slice-copy 𝓤 H A W (named 0) κ₀ u8 .twice file (s₀ ∷ [])) $ split ! $ move ! (2 ∷ []) $ fsplit ! $
+        move ! (1 ∷ []) $ fsplit ! $ use1 W (‵ (OwnFile κ₀ file) ⊛ ‵ (OwnFile κ₀ file)) (shr-slice-copy 𝓤 H A W (named 0) κ₀ u8 .twice file (slice file ∷ [])) $ split ! $ move ! (2 ∷ []) $ fsplit ! $
         move ! (1 ∷ []) $ fsplit ! $ move ! (5 ∷ []) $ split ! $ move ! (1 ∷ []) $ split ! $ move ! (1 ∷ []) $ split ! $ keep ! (7 ∷ 8 ∷ 6 ∷ 4 ∷ 3 ∷ 2 ∷ 0 ∷ []) $
-        enter ! C Λ code.function (s₀ ∷ s₁ ∷ s ∷ []) _ $ alloc1 ! (λ l0. alloc1 ! (λ l1. alloc1 ! (λ l2. alloc1 ! (λ l3. alloc1 ! (λ l4. alloc1 ! (λ l5. alloc1 ! (λ l6.
+        enter ! C Λ code.function (slice file ∷ slice cells ∷ slice row ∷ []) _ $ alloc1 ! (λ l0. alloc1 ! (λ l1. alloc1 ! (λ l2. alloc1 ! (λ l3. alloc1 ! (λ l4. alloc1 ! (λ l5. alloc1 ! (λ l6.
         alloc1 ! (λ l7. alloc1 ! (λ l8. alloc1 ! (λ l9. alloc1 ! (λ l10. alloc1 ! (λ l11. alloc0 ! $ params1 ! $
         pass1 ! (init ! 20 refl (tt, (tt, (record { fits = room₀ .0 }, tt)))) $ pass1 ! (init ! 18 refl (tt, (tt, (record { fits = room₁ .0 }, tt)))) $
         pass1 ! (init ! 16 refl (tt, (tt, (record { fits = room .0 }, tt)))) $ pass0 ! $
@@ -184,6 +173,7 @@ module _ {M : Type 1} (𝓤 : URA M) (H : Heap 𝓤) (A : Atoms 𝓤) (W : Given
         land ! (from ! (stop !)) (init ! 15 refl (EL.lawful N.the-type N′.the-laws 𝓤 H A W tt .typed r _ is .0)) $
         assigns ! (addr ! (from ! (fld ! refl (hop ! (look-in ! 19 (sub ! 0 refl (whole !))) (stop !))))) (from ! (stop !)) (init ! 7 refl (tt, tt)) $
         assigns ! (agg ! (and-then ! (load ! (from ! (stop !)) (look ! 7 refl)) (and-then ! (load ! (from ! (fld ! refl (stop !))) (look-in ! 19 (sub ! 1 refl (whole !)))) (no-more !)))) (from ! (stop !)) (init ! 5 refl (tt, (tt, (record { fits = room .0 }, tt)))) $
+        -- [the result; tokens; the cells' last list; _11 to _0; the file; the row; token 2]
         use0 W (raw (Count 𝓤 H A at-mem run .pre (to-count r v))) (goes-count r v is (room .0)) $
         calls-at ! fm (Count 𝓤 H A at-mem run) known-c (to-count r v) (and-then ! (load ! (from ! (stop !)) (look ! 16 refl)) (and-then ! (load ! (from ! (stop !)) (look ! 18 refl)) (no-more !))) (λ v′.
         use1 W (later (some (λ (m : ℕ). (‵ ftrue ⊛ ‵ (usize .own m (v′ ∷ []))) ⊛ raw (ensured 𝓤 H A count.ended (count.clauses 𝓤 H A at-mem run) tt (r, (length (row .now), tt)) tt m)))) (id⊢ 𝓤 _) $
@@ -191,6 +181,7 @@ module _ {M : Type 1} (𝓤 : URA M) (H : Heap 𝓤) (A : Atoms 𝓤) (W : Given
         heard ! (m ≡ idleCount r (length (row .now))) (λ em. split ! $ drop ! $ peeks ! usize (Is usize) (shows 𝓤 H A usize) m (v′ ∷ []) (λ im. drop ! $
         land ! (from ! (stop !)) (init ! 3 refl (uint-lawful 𝓤 H A W w64 .typed m _ im .0)) $
         rewrite ! 3 (λ (u : Val). ‵ (fat fullShare (tyInt w64) l11 0 u)) (ap only (uint-tells w64 m (v′ ∷ []) im)) refl $
+        -- [the result; tokens; the cells' last list; _11 to _0; the file; the row; token 2]
         owned ! usize (Is usize) (uint-makes 𝓤 H A W w64) m _ (refl, im .1) $ nothing ! $ move ! (1 ∷ 0 ∷ []) $ fjoin ! $ move ! (29 ∷ 0 ∷ []) $ fjoin ! $ nothing ! $
         move ! (30 ∷ 0 ∷ []) $ join ! $ use2 W (raw (Fill 𝓤 H A at-mem run .pre (to-fill m))) (goes-fill m (fits-at (file .now) (cells .now) (row .now) r m (e .0) em)) $
         calls-at ! fm (Fill 𝓤 H A at-mem run) known-f (to-fill m) (and-then ! (load ! (from ! (stop !)) (look ! 6 refl)) (and-then ! (load ! (from ! (stop !)) (look ! 4 refl)) (no-more !))) (λ v″.
@@ -201,6 +192,7 @@ module _ {M : Type 1} (𝓤 : URA M) (H : Heap 𝓤) (A : Atoms 𝓤) (W : Given
         move ! (1 ∷ []) $ split ! $ move ! (1 ∷ []) $ peeks ! Nothing (Is Nothing) (shows 𝓤 H A Nothing) u (v″ ∷ []) (λ iu. drop ! $
         land ! (from ! (stop !)) (init ! 11 refl (nothing-lawful 𝓤 H A W .typed u _ iu .0)) $
         assigns ! (of-opd ! (load ! (from ! (stop !)) (look ! 17 refl))) (from ! (stop !)) (init ! 27 refl (EL.lawful N.the-type N′.the-laws 𝓤 H A W tt .typed r _ is .0)) $
+        -- [token of the row; the row's last list; the result; tokens; the cells' last list; _11 to _0; the file]
         returns ! (look ! 27 refl) $ forget ! 5 refl $ forget ! 7 refl $ forget ! 9 refl $ forget ! 11 refl $ forget ! 13 refl $ forget ! 15 refl $ forget ! 17 refl $
         forget ! 19 refl $ forget ! 21 refl $ forget ! 23 refl $ forget ! 25 refl $ forget ! 27 refl $ move ! (27 ∷ 28 ∷ []) $ free1 ! $ move ! (25 ∷ 26 ∷ []) $ free1 ! $
         move ! (23 ∷ 24 ∷ []) $ free1 ! $ move ! (21 ∷ 22 ∷ []) $ free1 ! $ move ! (19 ∷ 20 ∷ []) $ free1 ! $ move ! (17 ∷ 18 ∷ []) $ free1 ! $ move ! (15 ∷ 16 ∷ []) $ free1 ! $

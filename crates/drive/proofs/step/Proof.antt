@@ -26,7 +26,7 @@ use denote.Laws.{Is, shows}
 use denote.Plain.{uint-vals, uint-tells, uint-makes}
 use denote.Builtin.{u8, u64, usize}
 use denote.Ref.{RefT}
-use denote.Slice.{sliceVal, slice-vals, ShrSlice, MutSlice, Room, finally, heres, codedHoleys, mut-slice-tells, shr-slice-tells, shr-slice-copy, res-finally}
+use denote.Slice.{slice-vals, ShrSlice, MutSlice, Room, finally, heres, codedHoleys, mut-slice-tells, shr-slice-tells, shr-slice-copy, res-finally}
 use denote.Signature.{plain}
 use denote.Steps.{owned, peeks, heard, nothing}
 use denote.Enum.Laws as EL
@@ -38,6 +38,7 @@ use denote.Triple.Clauses.{ensured, lasts}
 use denote.Triple.Table.{entered, cited}
 use denote.Triple.Walked.{says, Stays, gave-slice, stay-none, stay-none-slice, walkOf, AllGo, goes-none, goes-none-slice, goes-gave-slice, Walks, ends-at, walked, walk-meets}
 use denote.Exit.{yes}
+use Rattle.drive.proofs.Values.{slice, OwnFile}
 use Rattle.stepping.specs.declared.record.Task.{Task}
 use Rattle.stepping.proofs.record.Task as T
 use Rattle.stepping.specs.declared.access.Answer.{Answer}
@@ -77,29 +78,17 @@ module _ {M : Type 1} (𝓤 : URA M) (H : Heap 𝓤) (A : Atoms 𝓤) (W : Given
   abbrev x : Arg
   x = (file, (cells, (row, (t, tt))))
 
-  -- the machine values of the slices
-  abbrev s₀ : Val
-  s₀ = sliceVal (file .ptr) (length (file .now))
-
-  abbrev s₁ : Val
-  s₁ = sliceVal (cells .ptr) (length (cells .now))
-
-  abbrev s : Val
-  s = sliceVal (row .ptr) (length (row .now))
-
+  -- the machine values of the arguments
   abbrev at : List Val × (List Val × (List Val × (List Val × Unit {0})))
-  at = (s₀ ∷ [], (s₁ ∷ [], (s ∷ [], (vint w64 t ∷ [], tt))))
+  at = (slice file ∷ [], (slice cells ∷ [], (slice row ∷ [], (vint w64 t ∷ [], tt))))
 
   abbrev Post : Val → SProp 𝓤
   Post = walkOf 𝓤 H A fn.ended stayed (fn.clauses 𝓤 H A at-mem run) .post (((κ₀, (κ₁, (κ₂, tt))), (q₀, (q₁, (q₂, tt))), tt, x, at), tt)
 
-  abbrev OwnT : Fml
-  OwnT = ShrSlice (named 0) κ₀ u8 .own file (s₀ ∷ [])
-
   exits : (r : Answer) (v : Val) (cs′ : List ℕ) (ys′ : List Task) → StepSaid (file .now) (cells .now) (row .now) t cs′ ys′ r → length cs′ ≡ length (cells .now) → length ys′ ≡ length (row .now) → t < 2 ^ 64
-      → ent 𝓤 (⋆ 𝓤 H A (‵ (flft κ₀ q₀) ∷ ‵ (flft κ₁ q₁) ∷ ‵ (flft κ₂ q₂) ∷ ‵ OwnT ∷ ‵ (finally u64 (cells .name) cs′) ∷ ‵ (finally T.the-row (row .name) ys′) ∷ ‵ (N.the-row .own r (v ∷ [])) ∷ [])) (Post v)
+      → ent 𝓤 (⋆ 𝓤 H A (‵ (flft κ₀ q₀) ∷ ‵ (flft κ₁ q₁) ∷ ‵ (flft κ₂ q₂) ∷ ‵ (OwnFile κ₀ file) ∷ ‵ (finally u64 (cells .name) cs′) ∷ ‵ (finally T.the-row (row .name) ys′) ∷ ‵ (N.the-row .own r (v ∷ [])) ∷ [])) (Post v)
   exits r v cs′ ys′ said lc ly gt =
-      qed W (‵ (flft κ₀ q₀) ∷ ‵ (flft κ₁ q₁) ∷ ‵ (flft κ₂ q₂) ∷ ‵ OwnT ∷ ‵ (finally u64 (cells .name) cs′) ∷ ‵ (finally T.the-row (row .name) ys′) ∷ ‵ (N.the-row .own r (v ∷ [])) ∷ []) ∵
+      qed W (‵ (flft κ₀ q₀) ∷ ‵ (flft κ₁ q₁) ∷ ‵ (flft κ₂ q₂) ∷ ‵ (OwnFile κ₀ file) ∷ ‵ (finally u64 (cells .name) cs′) ∷ ‵ (finally T.the-row (row .name) ys′) ∷ ‵ (N.the-row .own r (v ∷ [])) ∷ []) ∵
       suffices ! _ (ends-at 𝓤 H A fn.ended stayed (fn.clauses 𝓤 H A at-mem run) W (((κ₀, (κ₁, (κ₂, tt))), (q₀, (q₁, (q₂, tt))), tt, x, at), tt) v r (tt, (cs′, (ys′, (tt, tt)))) (tt, (lc, (ly, (tt, tt))))) $
       says ! said $ nothing ! $ move ! (3 ∷ 0 ∷ []) $ join ! $ move ! (2 ∷ 0 ∷ []) $ join ! $ move ! (1 ∷ 0 ∷ []) $ join ! $ frame ! $
       owned ! usize (Is usize) (uint-makes 𝓤 H A W w64) t _ (refl, gt) $ nothing ! $ move ! (1 ∷ 0 ∷ []) $ fjoin ! $ move ! (3 ∷ 0 ∷ []) $ fjoin ! $ move ! (2 ∷ 0 ∷ []) $
@@ -110,7 +99,7 @@ module _ {M : Type 1} (𝓤 : URA M) (H : Heap 𝓤) (A : Atoms 𝓤) (W : Given
   args = (file, (cells, (length (row .now), (t, tt))))
 
   abbrev passed : List Val × (List Val × (List Val × (List Val × Unit {0})))
-  passed = (s₀ ∷ [], (s₁ ∷ [], (vint w64 (length (row .now)) ∷ [], (vint w64 t ∷ [], tt))))
+  passed = (slice file ∷ [], (slice cells ∷ [], (vint w64 (length (row .now)) ∷ [], (vint w64 t ∷ [], tt))))
 
   abbrev to-past : Past 𝓤 H A at-mem run .Ghost
   to-past = (((κ₀, (κ₁, tt)), (q₀, (q₁, tt)), tt, args, passed), tt)
@@ -133,18 +122,19 @@ module _ {M : Type 1} (𝓤 : URA M) (H : Heap 𝓤) (A : Atoms 𝓤) (W : Given
 
   module _ (C : Calls 𝓤 H) (Λ : Loops 𝓤 H) (fm : FmC 𝓤 H (W .laws) C) (known-p : Triple 𝓤 (C #drive·step-past) (Past 𝓤 H A at-mem run)) (known-i : Triple 𝓤 (C #drive·step-in) (Inside 𝓤 H A at-mem run)) where
     walk : Room u8 (length (file .now)) → Room u64 (length (cells .now)) → Room T.the-row (length (row .now)) → t < 2 ^ 64
-        → ent 𝓤 (onEntry 𝓤 H A fn.signature (κ₀, (κ₁, (κ₂, tt))) (q₀, (q₁, (q₂, tt))) x at) (WpFn 𝓤 H C Λ code.function (s₀ ∷ s₁ ∷ s ∷ vint w64 t ∷ []) Post)
+        → ent 𝓤 (onEntry 𝓤 H A fn.signature (κ₀, (κ₁, (κ₂, tt))) (q₀, (q₁, (q₂, tt))) x at) (WpFn 𝓤 H C Λ code.function (slice file ∷ slice cells ∷ slice row ∷ vint w64 t ∷ []) Post)
     walk room₀ room₁ room gt =
         qed W ((‵ (flft κ₀ q₀) ⊛ ‵ (flft κ₁ q₁) ⊛ ‵ (flft κ₂ q₂) ⊛ ‵ ftrue) ∷ ‵ Owned ∷ []) ∵
-        move ! (1 ∷ []) $ fsplit ! $ use1 W (‵ OwnT ⊛ ‵ OwnT) (shr-slice-copy 𝓤 H A W (named 0) κ₀ u8 .twice file (s₀ ∷ [])) $ split ! $ move ! (2 ∷ []) $ fsplit ! $
+        move ! (1 ∷ []) $ fsplit ! $ use1 W (‵ (OwnFile κ₀ file) ⊛ ‵ (OwnFile κ₀ file)) (shr-slice-copy 𝓤 H A W (named 0) κ₀ u8 .twice file (slice file ∷ [])) $ split ! $ move ! (2 ∷ []) $ fsplit ! $
         move ! (1 ∷ []) $ fsplit ! $ move ! (5 ∷ []) $ split ! $ move ! (1 ∷ []) $ split ! $ move ! (1 ∷ []) $ split ! $ keep ! (7 ∷ 8 ∷ 6 ∷ 4 ∷ 3 ∷ 2 ∷ 0 ∷ []) $
-        enter ! C Λ code.function (s₀ ∷ s₁ ∷ s ∷ vint w64 t ∷ []) _ $ alloc1 ! (λ l0. alloc1 ! (λ l1. alloc1 ! (λ l2. alloc1 ! (λ l3. alloc1 ! (λ l4. alloc1 ! (λ l5.
+        enter ! C Λ code.function (slice file ∷ slice cells ∷ slice row ∷ vint w64 t ∷ []) _ $ alloc1 ! (λ l0. alloc1 ! (λ l1. alloc1 ! (λ l2. alloc1 ! (λ l3. alloc1 ! (λ l4. alloc1 ! (λ l5.
         alloc1 ! (λ l6. alloc1 ! (λ l7. alloc1 ! (λ l8. alloc1 ! (λ l9. alloc1 ! (λ l10. alloc1 ! (λ l11. alloc1 ! (λ l12. alloc0 ! $ params1 ! $
         pass1 ! (init ! 22 refl (tt, (tt, (record { fits = room₀ .0 }, tt)))) $ pass1 ! (init ! 20 refl (tt, (tt, (record { fits = room₁ .0 }, tt)))) $
         pass1 ! (init ! 18 refl (tt, (tt, (record { fits = room .0 }, tt)))) $ pass1 ! (init ! 16 refl (tt, record { fits = gt })) $ pass0 ! $
         assigns ! (of-opd ! (load ! (from ! (fld ! refl (stop !))) (look-in ! 18 (sub ! 1 refl (whole !))))) (from ! (stop !)) (init ! 14 refl (tt, record { fits = room .0 })) $
-        assigns ! (bin ! (load ! (from ! (stop !)) (look ! 14 refl)) (load ! (from ! (stop !)) (look ! 16 refl)) tt) (from ! (stop !)) (init ! 12 refl (tt, tt)) $ first ! $
-        branches ! (load ! (from ! (stop !)) (look ! 12 refl))
+        assigns ! (bin ! (load ! (from ! (stop !)) (look ! 14 refl)) (load ! (from ! (stop !)) (look ! 16 refl)) tt) (from ! (stop !)) (init ! 12 refl (tt, tt)) $
+        -- [_12 to _0; the file, to pass on; the file; the cells; the row; token 0; token 1; token 2]
+        first ! $ branches ! (load ! (from ! (stop !)) (look ! 12 refl))
         (λ past.
         assigns ! (addr ! (from ! (fld ! refl (hop ! (look-in ! 20 (sub ! 0 refl (whole !))) (stop !))))) (from ! (stop !)) (init ! 10 refl (tt, tt)) $
         assigns ! (agg ! (and-then ! (load ! (from ! (stop !)) (look ! 10 refl)) (and-then ! (load ! (from ! (fld ! refl (stop !))) (look-in ! 20 (sub ! 1 refl (whole !)))) (no-more !)))) (from ! (stop !)) (init ! 8 refl (tt, (tt, (record { fits = room₁ .0 }, tt)))) $
@@ -158,12 +148,13 @@ module _ {M : Type 1} (𝓤 : URA M) (H : Heap 𝓤) (A : Atoms 𝓤) (W : Given
         pick ! (λ zs. split ! $ move ! (1 ∷ []) $ heard ! (IdleStepSaid (file .now) (cells .now) (length (row .now)) t (zs .1 .0) r) (λ e. fsplit ! $ drop ! $ fsplit ! $
         fsplit ! $ move ! (1 ∷ []) $ feqL ! (λ lc. move ! (1 ∷ []) $ drop ! $ move ! (1 ∷ []) $ split ! $ move ! (1 ∷ []) $
         peeks ! N.the-row (Is N.the-row) (shows 𝓤 H A N.the-row) r (v ∷ []) (λ is.
-        land ! (from ! (stop !)) (init ! 27 refl (EL.lawful N.the-type N′.the-laws 𝓤 H A W tt .typed r _ is .0)) $ returns-within ! Post refl (look ! 27 refl) $
-        forget ! 11 refl $ forget ! 13 refl $ forget ! 15 refl $ forget ! 17 refl $ forget ! 19 refl $ forget ! 21 refl $ forget ! 23 refl $ forget ! 25 refl $ forget ! 27 refl $
-        move ! (27 ∷ 28 ∷ []) $ free1 ! $ move ! (25 ∷ 26 ∷ []) $ free1 ! $ move ! (23 ∷ 24 ∷ []) $ free1 ! $ move ! (21 ∷ 22 ∷ []) $ free1 ! $ move ! (19 ∷ 20 ∷ []) $ free1 ! $
-        move ! (17 ∷ 18 ∷ []) $ free1 ! $ move ! (15 ∷ 16 ∷ []) $ free1 ! $ move ! (13 ∷ 14 ∷ []) $ free1 ! $ move ! (11 ∷ 12 ∷ []) $ free1 ! $ move ! (9 ∷ 10 ∷ []) $ free1 ! $
-        move ! (7 ∷ 8 ∷ []) $ free1 ! $ move ! (5 ∷ 6 ∷ []) $ free1 ! $ move ! (3 ∷ 4 ∷ []) $ free1 ! $ free0 ! $ move ! (4 ∷ []) $ fsplit ! $ drop ! $ fsplit ! $
-        move ! (1 ∷ []) $ drop ! $
+        land ! (from ! (stop !)) (init ! 27 refl (EL.lawful N.the-type N′.the-laws 𝓤 H A W tt .typed r _ is .0)) $
+        -- [the result; tokens; the cells' last list; _12 to _0; the file; the row; token 2]
+        returns-within ! Post refl (look ! 27 refl) $ forget ! 11 refl $ forget ! 13 refl $ forget ! 15 refl $ forget ! 17 refl $ forget ! 19 refl $ forget ! 21 refl $
+        forget ! 23 refl $ forget ! 25 refl $ forget ! 27 refl $ move ! (27 ∷ 28 ∷ []) $ free1 ! $ move ! (25 ∷ 26 ∷ []) $ free1 ! $ move ! (23 ∷ 24 ∷ []) $ free1 ! $
+        move ! (21 ∷ 22 ∷ []) $ free1 ! $ move ! (19 ∷ 20 ∷ []) $ free1 ! $ move ! (17 ∷ 18 ∷ []) $ free1 ! $ move ! (15 ∷ 16 ∷ []) $ free1 ! $ move ! (13 ∷ 14 ∷ []) $ free1 ! $
+        move ! (11 ∷ 12 ∷ []) $ free1 ! $ move ! (9 ∷ 10 ∷ []) $ free1 ! $ move ! (7 ∷ 8 ∷ []) $ free1 ! $ move ! (5 ∷ 6 ∷ []) $ free1 ! $ move ! (3 ∷ 4 ∷ []) $ free1 ! $
+        free0 ! $ move ! (4 ∷ []) $ fsplit ! $ drop ! $ fsplit ! $ move ! (1 ∷ []) $ drop ! $
         use1 W (‵ (fres (row .name) (codedHoleys T.the-row .code (heres T.the-row (row .now))))) (W .names .obs-res (row .name) (codedHoleys T.the-row .code (heres T.the-row (row .now)))) $
         use1 W (‵ (finally T.the-row (row .name) (row .now))) (res-finally 𝓤 H A W (named 2) κ₂ T.the-row (row .name) (row .now)) $ move ! (2 ∷ []) $ split ! $ move ! (1 ∷ []) $
         split ! $ keep ! (2 ∷ 0 ∷ 7 ∷ 6 ∷ 5 ∷ 3 ∷ 4 ∷ []) $
@@ -185,12 +176,14 @@ module _ {M : Type 1} (𝓤 : URA M) (H : Heap 𝓤) (A : Atoms 𝓤) (W : Given
         pick ! (λ zs. split ! $ move ! (1 ∷ []) $ heard ! (StepSaid (file .now) (cells .now) (row .now) t (zs .1 .0) (zs .1 .1 .0) r) (λ e. fsplit ! $ drop ! $ fsplit ! $
         fsplit ! $ move ! (1 ∷ []) $ feqL ! (λ lc. move ! (1 ∷ []) $ fsplit ! $ fsplit ! $ move ! (1 ∷ []) $ feqL ! (λ ly. move ! (1 ∷ []) $ drop ! $ move ! (2 ∷ []) $ split ! $
         move ! (1 ∷ []) $ peeks ! N.the-row (Is N.the-row) (shows 𝓤 H A N.the-row) r (v ∷ []) (λ is.
-        land ! (from ! (stop !)) (init ! 28 refl (EL.lawful N.the-type N′.the-laws 𝓤 H A W tt .typed r _ is .0)) $ returns ! (look ! 28 refl) $ forget ! 4 refl $
-        forget ! 6 refl $ forget ! 8 refl $ forget ! 10 refl $ forget ! 16 refl $ forget ! 18 refl $ forget ! 20 refl $ forget ! 22 refl $ forget ! 24 refl $ forget ! 26 refl $
-        forget ! 28 refl $ move ! (28 ∷ 29 ∷ []) $ free1 ! $ move ! (26 ∷ 27 ∷ []) $ free1 ! $ move ! (24 ∷ 25 ∷ []) $ free1 ! $ move ! (22 ∷ 23 ∷ []) $ free1 ! $
-        move ! (20 ∷ 21 ∷ []) $ free1 ! $ move ! (18 ∷ 19 ∷ []) $ free1 ! $ move ! (16 ∷ 17 ∷ []) $ free1 ! $ move ! (14 ∷ 15 ∷ []) $ free1 ! $ move ! (12 ∷ 13 ∷ []) $ free1 ! $
-        move ! (10 ∷ 11 ∷ []) $ free1 ! $ move ! (8 ∷ 9 ∷ []) $ free1 ! $ move ! (6 ∷ 7 ∷ []) $ free1 ! $ move ! (4 ∷ 5 ∷ []) $ free1 ! $ free0 ! $ move ! (1 ∷ []) $ split ! $
-        move ! (1 ∷ []) $ split ! $ move ! (1 ∷ []) $ split ! $ keep ! (3 ∷ 2 ∷ 0 ∷ 7 ∷ 6 ∷ 5 ∷ 4 ∷ []) $ by ! (exits r v (zs .1 .0) (zs .1 .1 .0) e lc ly gt))))))))))))))))))))))
+        land ! (from ! (stop !)) (init ! 28 refl (EL.lawful N.the-type N′.the-laws 𝓤 H A W tt .typed r _ is .0)) $
+        -- [the result; tokens; the row's last list; the cells' last list; _12 to _0; the file]
+        returns ! (look ! 28 refl) $ forget ! 4 refl $ forget ! 6 refl $ forget ! 8 refl $ forget ! 10 refl $ forget ! 16 refl $ forget ! 18 refl $ forget ! 20 refl $
+        forget ! 22 refl $ forget ! 24 refl $ forget ! 26 refl $ forget ! 28 refl $ move ! (28 ∷ 29 ∷ []) $ free1 ! $ move ! (26 ∷ 27 ∷ []) $ free1 ! $ move ! (24 ∷ 25 ∷ []) $
+        free1 ! $ move ! (22 ∷ 23 ∷ []) $ free1 ! $ move ! (20 ∷ 21 ∷ []) $ free1 ! $ move ! (18 ∷ 19 ∷ []) $ free1 ! $ move ! (16 ∷ 17 ∷ []) $ free1 ! $ move ! (14 ∷ 15 ∷ []) $
+        free1 ! $ move ! (12 ∷ 13 ∷ []) $ free1 ! $ move ! (10 ∷ 11 ∷ []) $ free1 ! $ move ! (8 ∷ 9 ∷ []) $ free1 ! $ move ! (6 ∷ 7 ∷ []) $ free1 ! $ move ! (4 ∷ 5 ∷ []) $
+        free1 ! $ free0 ! $ move ! (1 ∷ []) $ split ! $ move ! (1 ∷ []) $ split ! $ move ! (1 ∷ []) $ split ! $ keep ! (3 ∷ 2 ∷ 0 ∷ 7 ∷ 6 ∷ 5 ∷ 4 ∷ []) $
+        by ! (exits r v (zs .1 .0) (zs .1 .1 .0) e lc ly gt))))))))))))))))))))))
 
 module _ {M : Type 1} (𝓤 : URA M) (H : Heap 𝓤) (A : Atoms 𝓤) (W : Given 𝓤 H A) (at-mem : Memory → SProp 𝓤) (run : Routine → Fun 𝓤) where
   fn-walks : (C : Calls 𝓤 H) (Λ : Loops 𝓤 H) → FmC 𝓤 H (W .laws) C → Triple 𝓤 (C #drive·step-past) (Past 𝓤 H A at-mem run) → Triple 𝓤 (C #drive·step-in) (Inside 𝓤 H A at-mem run)

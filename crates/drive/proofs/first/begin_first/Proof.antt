@@ -47,6 +47,7 @@ use denote.Triple.Clauses.{ensured, lasts}
 use denote.Triple.Table.{entered, cited}
 use denote.Triple.Walked.{says, Stays, stay-none, stay-none-slice, walkOf, AllGo, goes-none, goes-none-slice, Walks, ends-at, walked, walk-meets}
 use denote.Exit.{yes}
+use Rattle.drive.proofs.Values.{slice, OwnFile}
 use Rattle.stepping.specs.declared.record.Task.{Task}
 use Rattle.stepping.proofs.record.Task as T
 use Rattle.stepping.proofs.record.Task.Laws as T′
@@ -106,23 +107,17 @@ module _ {M : Type 1} (𝓤 : URA M) (H : Heap 𝓤) (A : Atoms 𝓤) (W : Given
   abbrev x : Arg
   x = (file, (xs, (n, (t, (w, tt)))))
 
-  -- the machine values of the slices
-  abbrev s₀ : Val
-  s₀ = sliceVal (file .ptr) (length (file .now))
-
+  -- the machine values of the arguments
   abbrev at : List Val × (List Val × (List Val × (List Val × (List Val × Unit {0}))))
-  at = (s₀ ∷ [], (machs xs ∷ [], (vint w64 n ∷ [], (vint w64 t ∷ [], (vint w64 w ∷ [], tt)))))
+  at = (slice file ∷ [], (machs xs ∷ [], (vint w64 n ∷ [], (vint w64 t ∷ [], (vint w64 w ∷ [], tt)))))
 
   abbrev Post : Val → SProp 𝓤
   Post = walkOf 𝓤 H A fn.ended stayed (fn.clauses 𝓤 H A at-mem run) .post (((κ₀, tt), (q₀, tt), tt, x, at), tt)
 
-  abbrev OwnT : Fml
-  OwnT = ShrSlice (named 0) κ₀ u8 .own file (s₀ ∷ [])
-
   exits : (r : BeginFirst) (v : Val) → _≡_ {A = Begun} (record { row = r .row; answer = r .answer }) (beginFirst (file .now) xs n t w) → Nine xs → n < 2 ^ 64 → t < 2 ^ 64 → w < 2 ^ 64
-      → ent 𝓤 (⋆ 𝓤 H A (‵ (flft κ₀ q₀) ∷ ‵ OwnT ∷ ‵ (O.the-row .own r (v ∷ [])) ∷ [])) (Post v)
+      → ent 𝓤 (⋆ 𝓤 H A (‵ (flft κ₀ q₀) ∷ ‵ (OwnFile κ₀ file) ∷ ‵ (O.the-row .own r (v ∷ [])) ∷ [])) (Post v)
   exits r v said nine gn gt gw =
-      qed W (‵ (flft κ₀ q₀) ∷ ‵ OwnT ∷ ‵ (O.the-row .own r (v ∷ [])) ∷ []) ∵
+      qed W (‵ (flft κ₀ q₀) ∷ ‵ (OwnFile κ₀ file) ∷ ‵ (O.the-row .own r (v ∷ [])) ∷ []) ∵
       suffices ! _ (ends-at 𝓤 H A fn.ended stayed (fn.clauses 𝓤 H A at-mem run) W (((κ₀, tt), (q₀, tt), tt, x, at), tt) v r (tt, (tt, (tt, (tt, (tt, tt))))) (tt, (tt, (tt, (tt, (tt, tt)))))) $
       says ! said $ nothing ! $ move ! (1 ∷ 0 ∷ []) $ join ! $ frame ! $
       owned ! (Array T.the-row 9) (Is (Array T.the-row 9)) (array-makes 𝓤 H A W T.the-row (LL.makes T.the-type T′.the-plain 𝓤 H A) 9) xs (machs xs ∷ []) nine $
@@ -149,7 +144,7 @@ module _ {M : Type 1} (𝓤 : URA M) (H : Heap 𝓤) (A : Atoms 𝓤) (W : Given
     args = (file, (lent m b γ, (t, (w, tt))))
 
     abbrev passed : List Val × (List Val × (List Val × (List Val × Unit {0})))
-    passed = (s₀ ∷ [], (s m b ∷ [], (vint w64 t ∷ [], (vint w64 w ∷ [], tt))))
+    passed = (slice file ∷ [], (s m b ∷ [], (vint w64 t ∷ [], (vint w64 w ∷ [], tt))))
 
   module _ (m b α : ℕ) (γ : GName) where
     abbrev to-core : Core 𝓤 H A at-mem run .Ghost
@@ -171,11 +166,11 @@ module _ {M : Type 1} (𝓤 : URA M) (H : Heap 𝓤) (A : Atoms 𝓤) (W : Given
 
   module _ (C : Calls 𝓤 H) (Λ : Loops 𝓤 H) (fm : FmC 𝓤 H (W .laws) C) (known-n : Triple 𝓤 (C #drive·first·first-count) (Count 𝓤 H A at-mem run)) (known-c : Triple 𝓤 (C #drive·begin) (Core 𝓤 H A at-mem run)) (known-o : Triple 𝓤 (C #drive·first·after-begin) (After 𝓤 H A at-mem run)) where
     walk : Room u8 (length (file .now)) → Nine xs → length xs ≡ 9 → n < 2 ^ 64 → t < 2 ^ 64 → w < 2 ^ 64
-        → ent 𝓤 (onEntry 𝓤 H A fn.signature (κ₀, tt) (q₀, tt) x at) (WpFn 𝓤 H C Λ code.function (s₀ ∷ machs xs ∷ vint w64 n ∷ vint w64 t ∷ vint w64 w ∷ []) Post)
+        → ent 𝓤 (onEntry 𝓤 H A fn.signature (κ₀, tt) (q₀, tt) x at) (WpFn 𝓤 H C Λ code.function (slice file ∷ machs xs ∷ vint w64 n ∷ vint w64 t ∷ vint w64 w ∷ []) Post)
     walk room₀ nine long gn gt gw =
         qed W ((‵ (flft κ₀ q₀) ⊛ ‵ ftrue) ∷ ‵ (owns (ShrSlice (named 0) κ₀ u8 ∷ Array T.the-row 9 ∷ usize ∷ usize ∷ usize ∷ []) x at) ∷ []) ∵
-        move ! (1 ∷ []) $ fsplit ! $ use1 W (‵ OwnT ⊛ ‵ OwnT) (shr-slice-copy 𝓤 H A W (named 0) κ₀ u8 .twice file (s₀ ∷ [])) $ split ! $ move ! (3 ∷ []) $ split ! $
-        keep ! (2 ∷ 3 ∷ 0 ∷ []) $ enter ! C Λ code.function (s₀ ∷ machs xs ∷ vint w64 n ∷ vint w64 t ∷ vint w64 w ∷ []) _ $ alloc1 ! (λ l0. alloc1 ! (λ l1. alloc1 ! (λ l2.
+        move ! (1 ∷ []) $ fsplit ! $ use1 W (‵ (OwnFile κ₀ file) ⊛ ‵ (OwnFile κ₀ file)) (shr-slice-copy 𝓤 H A W (named 0) κ₀ u8 .twice file (slice file ∷ [])) $ split ! $ move ! (3 ∷ []) $ split ! $
+        keep ! (2 ∷ 3 ∷ 0 ∷ []) $ enter ! C Λ code.function (slice file ∷ machs xs ∷ vint w64 n ∷ vint w64 t ∷ vint w64 w ∷ []) _ $ alloc1 ! (λ l0. alloc1 ! (λ l1. alloc1 ! (λ l2.
         alloc1 ! (λ l3. alloc1 ! (λ l4. alloc1 ! (λ l5. alloc1 ! (λ l6. alloc1 ! (λ l7. alloc1 ! (λ l8. alloc1 ! (λ l9. alloc1 ! (λ l10. alloc1 ! (λ l11. alloc0 ! $ params1 ! $
         pass1 ! (init ! 20 refl (tt, (tt, (record { fits = room₀ .0 }, tt)))) $
         pass1 ! (init ! 18 refl (array-lawful 𝓤 H A W T.the-row (LL.lawful T.the-type T′.the-laws 𝓤 H A W) 9 .typed xs _ nine .0)) $
@@ -192,9 +187,10 @@ module _ {M : Type 1} (𝓤 : URA M) (H : Heap 𝓤) (A : Atoms 𝓤) (W : Given
         assigns ! (of-opd ! (load ! (from ! (stop !)) (look ! 18 refl))) (from ! (stop !)) (init ! 8 refl (array-lawful 𝓤 H A W T.the-row (LL.lawful T.the-type T′.the-laws 𝓤 H A W) 9 .typed xs _ nine .0)) $
         assigns ! (addr ! (from ! (stop !))) (from ! (stop !)) (init ! 4 refl (tt, tt)) $
         assigns ! (agg ! (and-then ! (load ! (from ! (stop !)) (look ! 4 refl)) (and-then ! (load ! (from ! (stop !)) (look ! 10 refl)) (no-more !)))) (from ! (stop !)) (init ! 2 refl (tt, (tt, (record { fits = im .1 }, tt)))) $
-        rewrite ! 2 (λ (k : ℕ). ‵ (fat fullShare (sliceTy (tyRef erased mut (pointee (T.the-row .written)))) l10 0 (sliceVal (l7, 0) k))) (sym short) refl $ move ! (8 ∷ []) $
-        use1 W (‵ (lie 𝓤 H A W (take m xs) l7 0) ⊛ ‵ (lie 𝓤 H A W (dropN m xs) l7 (place 32 0 (length (take m xs))))) (parted 𝓤 H A W xs m l7 nine) $ split ! $ lft-new ! tt (λ α.
-        move ! (1 ∷ []) $
+        rewrite ! 2 (λ (k : ℕ). ‵ (fat fullShare (sliceTy (tyRef erased mut (pointee (T.the-row .written)))) l10 0 (sliceVal (l7, 0) k))) (sym short) refl $
+        -- [_11 to _0; the file, to pass on; the file; token 0]
+        move ! (8 ∷ []) $ use1 W (‵ (lie 𝓤 H A W (take m xs) l7 0) ⊛ ‵ (lie 𝓤 H A W (dropN m xs) l7 (place 32 0 (length (take m xs))))) (parted 𝓤 H A W xs m l7 nine) $ split ! $
+        lft-new ! tt (λ α. move ! (1 ∷ []) $
         use1 W (later (some (λ (γ : GName). ‵ (MutSlice (named 1) (α ∷ []) T.the-row .own (lent m l7 γ) (s m l7 ∷ [])) ⊛ ‵ (flent (α ∷ []) (Held T.the-row (length (take m xs)) l7 0 γ))))) (lends-slice 𝓤 H A W T.the-row (named 1) (α ∷ []) (take m xs) l7 0 room) $
         await ! tt $ pick ! (λ γ. split ! $ owned ! usize (Is usize) (uint-makes 𝓤 H A W w64) t _ (refl, gt) $ owned ! usize (Is usize) (uint-makes 𝓤 H A W w64) w _ (refl, gw) $
         nothing ! $ move ! (1 ∷ 0 ∷ []) $ fjoin ! $ move ! (1 ∷ 0 ∷ []) $ fjoin ! $ move ! (1 ∷ 0 ∷ []) $ fjoin ! $ move ! (27 ∷ 0 ∷ []) $ fjoin ! $ nothing ! $
@@ -205,8 +201,9 @@ module _ {M : Type 1} (𝓤 : URA M) (H : Heap 𝓤) (A : Atoms 𝓤) (W : Given
         use1 W (some (λ (zs : Unit {0} × (List Task × (Unit {0} × (Unit {0} × Unit {0})))). ‵ (lasts core.ended (κ₀, (α ∷ [], tt)) (args m l7 γ) zs) ⊛ raw (fact 𝓤 (BeginSaid (file .now) (take m xs) t w (zs .1 .0) a)))) (id⊢ 𝓤 _) $
         pick ! (λ zs. split ! $ move ! (1 ∷ []) $ heard ! (BeginSaid (file .now) (take m xs) t w (zs .1 .0) a) (λ e. fsplit ! $ drop ! $ fsplit ! $ fsplit ! $ move ! (1 ∷ []) $
         feqL ! (λ ly. move ! (1 ∷ []) $ drop ! $ move ! (1 ∷ []) $ split ! $ move ! (1 ∷ []) $ peeks ! N.the-row (Is N.the-row) (shows 𝓤 H A N.the-row) a (v₁ ∷ []) (λ is.
-        drop ! $ land ! (from ! (stop !)) (init ! 10 refl (EL.lawful N.the-type N′.the-laws 𝓤 H A W tt .typed a _ is .0)) $ split ! $ move ! (1 ∷ []) $ split ! $ lft-end ! tt $
-        move ! (0 ∷ 4 ∷ 3 ∷ []) $
+        drop ! $ land ! (from ! (stop !)) (init ! 10 refl (EL.lawful N.the-type N′.the-laws 𝓤 H A W tt .typed a _ is .0)) $
+        -- [tokens; the row's last list; the lender's part; the others; _11 to _0; the file]
+        split ! $ move ! (1 ∷ []) $ split ! $ lft-end ! tt $ move ! (0 ∷ 4 ∷ 3 ∷ []) $
         use3 W (later (‵ (Arr (mem T.the-row) (length (take m xs)) .lies (zs .1 .0) l7 0))) (slice-back 𝓤 H A W T.the-row (α ∷ []) γ (zs .1 .0) (length (take m xs)) l7 0) $
         await ! tt $ fsplit ! $ drop ! $ rewrite ! 3 (λ (k : ℕ). ‵ (lie 𝓤 H A W (dropN m xs) l7 (place 32 0 k))) (sym ly) refl $
         let whole-long : length (zs .1 .0 ++ dropN m xs) ≡ 9 = length-append (zs .1 .0) (dropN m xs) ∙ omega (arith, length-drop m xs, long, few, short, ly) in
@@ -220,12 +217,13 @@ module _ {M : Type 1} (𝓤 : URA M) (H : Heap 𝓤) (A : Atoms 𝓤) (W : Given
         await ! tt $ pick ! (λ r. split ! $ move ! (1 ∷ []) $
         use1 W (raw (fact 𝓤 ((r .row ≡ (zs .1 .0 ++ dropN m xs)) × (r .answer ≡ a)))) (after-said 𝓤 H A at-mem run (zs .1 .0 ++ dropN m xs) a r) $
         heard ! ((r .row ≡ (zs .1 .0 ++ dropN m xs)) × (r .answer ≡ a)) (λ eo. split ! $ drop ! $ peeks ! O.the-row (Is O.the-row) (shows 𝓤 H A O.the-row) r (v₂ ∷ []) (λ io.
-        land ! (from ! (stop !)) (init ! 25 refl (LL.lawful O.the-type O′.the-laws 𝓤 H A W .typed r _ io .0)) $ returns ! (look ! 25 refl) $ forget ! 4 refl $ forget ! 6 refl $
-        forget ! 8 refl $ forget ! 10 refl $ forget ! 1 refl $ forget ! 13 refl $ forget ! 15 refl $ forget ! 17 refl $ forget ! 19 refl $ forget ! 21 refl $ forget ! 23 refl $
-        forget ! 25 refl $ move ! (25 ∷ 26 ∷ []) $ free1 ! $ move ! (23 ∷ 24 ∷ []) $ free1 ! $ move ! (21 ∷ 22 ∷ []) $ free1 ! $ move ! (19 ∷ 20 ∷ []) $ free1 ! $
-        move ! (17 ∷ 18 ∷ []) $ free1 ! $ move ! (15 ∷ 16 ∷ []) $ free1 ! $ move ! (13 ∷ 14 ∷ []) $ free1 ! $ move ! (1 ∷ 12 ∷ []) $ free1 ! $ move ! (9 ∷ 10 ∷ []) $ free1 ! $
-        move ! (7 ∷ 8 ∷ []) $ free1 ! $ move ! (5 ∷ 6 ∷ []) $ free1 ! $ move ! (3 ∷ 4 ∷ []) $ free1 ! $ free0 ! $ keep ! (2 ∷ 3 ∷ 0 ∷ []) $
-        by ! (exits r v₂ (begin-first (file .now) xs n m t w (zs .1 .0) a (r .row) (r .answer) em e (eo .0) (eo .1)) nine gn gt gw))))))))))))))))))))))))))))))
+        land ! (from ! (stop !)) (init ! 25 refl (LL.lawful O.the-type O′.the-laws 𝓤 H A W .typed r _ io .0)) $
+        -- [the result; _7; tokens; token 0; _11 to _0; the file]
+        returns ! (look ! 25 refl) $ forget ! 4 refl $ forget ! 6 refl $ forget ! 8 refl $ forget ! 10 refl $ forget ! 1 refl $ forget ! 13 refl $ forget ! 15 refl $
+        forget ! 17 refl $ forget ! 19 refl $ forget ! 21 refl $ forget ! 23 refl $ forget ! 25 refl $ move ! (25 ∷ 26 ∷ []) $ free1 ! $ move ! (23 ∷ 24 ∷ []) $ free1 ! $
+        move ! (21 ∷ 22 ∷ []) $ free1 ! $ move ! (19 ∷ 20 ∷ []) $ free1 ! $ move ! (17 ∷ 18 ∷ []) $ free1 ! $ move ! (15 ∷ 16 ∷ []) $ free1 ! $ move ! (13 ∷ 14 ∷ []) $ free1 ! $
+        move ! (1 ∷ 12 ∷ []) $ free1 ! $ move ! (9 ∷ 10 ∷ []) $ free1 ! $ move ! (7 ∷ 8 ∷ []) $ free1 ! $ move ! (5 ∷ 6 ∷ []) $ free1 ! $ move ! (3 ∷ 4 ∷ []) $ free1 ! $
+        free0 ! $ keep ! (2 ∷ 3 ∷ 0 ∷ []) $ by ! (exits r v₂ (begin-first (file .now) xs n m t w (zs .1 .0) a (r .row) (r .answer) em e (eo .0) (eo .1)) nine gn gt gw))))))))))))))))))))))))))))))
 
 module _ {M : Type 1} (𝓤 : URA M) (H : Heap 𝓤) (A : Atoms 𝓤) (W : Given 𝓤 H A) (at-mem : Memory → SProp 𝓤) (run : Routine → Fun 𝓤) where
   fn-walks : (C : Calls 𝓤 H) (Λ : Loops 𝓤 H) → FmC 𝓤 H (W .laws) C → Triple 𝓤 (C #drive·first·first-count) (Count 𝓤 H A at-mem run) → Triple 𝓤 (C #drive·begin) (Core 𝓤 H A at-mem run) → Triple 𝓤 (C #drive·first·after-begin) (After 𝓤 H A at-mem run)

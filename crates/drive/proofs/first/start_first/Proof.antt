@@ -47,6 +47,7 @@ use denote.Triple.Clauses.{ensured, lasts}
 use denote.Triple.Table.{entered, cited}
 use denote.Triple.Walked.{says, Stays, gave-slice, stay-none, stay-none-slice, walkOf, AllGo, goes-none, goes-none-slice, goes-gave-slice, Walks, ends-at, walked, walk-meets}
 use denote.Exit.{yes}
+use Rattle.drive.proofs.Values.{slice, OwnFile}
 use Rattle.stepping.specs.declared.record.Task.{Task}
 use Rattle.stepping.proofs.record.Task as T
 use Rattle.stepping.proofs.record.Task.Laws as T′
@@ -106,26 +107,17 @@ module _ {M : Type 1} (𝓤 : URA M) (H : Heap 𝓤) (A : Atoms 𝓤) (W : Given
   abbrev x : Arg
   x = (file, (cells, (xs, (n, tt))))
 
-  -- the machine values of the slices
-  abbrev s₀ : Val
-  s₀ = sliceVal (file .ptr) (length (file .now))
-
-  abbrev s₁ : Val
-  s₁ = sliceVal (cells .ptr) (length (cells .now))
-
+  -- the machine values of the arguments
   abbrev at : List Val × (List Val × (List Val × (List Val × Unit {0})))
-  at = (s₀ ∷ [], (s₁ ∷ [], (machs xs ∷ [], (vint w64 n ∷ [], tt))))
+  at = (slice file ∷ [], (slice cells ∷ [], (machs xs ∷ [], (vint w64 n ∷ [], tt))))
 
   abbrev Post : Val → SProp 𝓤
   Post = walkOf 𝓤 H A fn.ended stayed (fn.clauses 𝓤 H A at-mem run) .post (((κ₀, (κ₁, tt)), (q₀, (q₁, tt)), tt, x, at), tt)
 
-  abbrev OwnT : Fml
-  OwnT = ShrSlice (named 0) κ₀ u8 .own file (s₀ ∷ [])
-
   exits : (r : StartFirst) (v : Val) (cs′ : List ℕ) → _≡_ {A = Started} (record { cells = cs′; row = r .row; answer = r .answer }) (startFirst (file .now) (cells .now) xs n) → length cs′ ≡ length (cells .now) → Nine xs → n < 2 ^ 64
-      → ent 𝓤 (⋆ 𝓤 H A (‵ (flft κ₀ q₀) ∷ ‵ (flft κ₁ q₁) ∷ ‵ OwnT ∷ ‵ (finally u64 (cells .name) cs′) ∷ ‵ (O.the-row .own r (v ∷ [])) ∷ [])) (Post v)
+      → ent 𝓤 (⋆ 𝓤 H A (‵ (flft κ₀ q₀) ∷ ‵ (flft κ₁ q₁) ∷ ‵ (OwnFile κ₀ file) ∷ ‵ (finally u64 (cells .name) cs′) ∷ ‵ (O.the-row .own r (v ∷ [])) ∷ [])) (Post v)
   exits r v cs′ said lc nine gn =
-      qed W (‵ (flft κ₀ q₀) ∷ ‵ (flft κ₁ q₁) ∷ ‵ OwnT ∷ ‵ (finally u64 (cells .name) cs′) ∷ ‵ (O.the-row .own r (v ∷ [])) ∷ []) ∵
+      qed W (‵ (flft κ₀ q₀) ∷ ‵ (flft κ₁ q₁) ∷ ‵ (OwnFile κ₀ file) ∷ ‵ (finally u64 (cells .name) cs′) ∷ ‵ (O.the-row .own r (v ∷ [])) ∷ []) ∵
       suffices ! _ (ends-at 𝓤 H A fn.ended stayed (fn.clauses 𝓤 H A at-mem run) W (((κ₀, (κ₁, tt)), (q₀, (q₁, tt)), tt, x, at), tt) v r (tt, (cs′, (tt, (tt, tt)))) (tt, (lc, (tt, (tt, tt))))) $
       says ! said $ nothing ! $ move ! (2 ∷ 0 ∷ []) $ join ! $ move ! (1 ∷ 0 ∷ []) $ join ! $ frame ! $
       owned ! (Array T.the-row 9) (Is (Array T.the-row 9)) (array-makes 𝓤 H A W T.the-row (LL.makes T.the-type T′.the-plain 𝓤 H A) 9) xs (machs xs ∷ []) nine $
@@ -151,7 +143,7 @@ module _ {M : Type 1} (𝓤 : URA M) (H : Heap 𝓤) (A : Atoms 𝓤) (W : Given
     args = (file, (cells, (lent m b γ, tt)))
 
     abbrev passed : List Val × (List Val × (List Val × Unit {0}))
-    passed = (s₀ ∷ [], (s₁ ∷ [], (s m b ∷ [], tt)))
+    passed = (slice file ∷ [], (slice cells ∷ [], (s m b ∷ [], tt)))
 
   module _ (m b α : ℕ) (γ : GName) where
     abbrev to-core : Core 𝓤 H A at-mem run .Ghost
@@ -173,11 +165,11 @@ module _ {M : Type 1} (𝓤 : URA M) (H : Heap 𝓤) (A : Atoms 𝓤) (W : Given
 
   module _ (C : Calls 𝓤 H) (Λ : Loops 𝓤 H) (fm : FmC 𝓤 H (W .laws) C) (known-n : Triple 𝓤 (C #drive·first·first-count) (Count 𝓤 H A at-mem run)) (known-c : Triple 𝓤 (C #drive·start) (Core 𝓤 H A at-mem run)) (known-o : Triple 𝓤 (C #drive·first·after-start) (After 𝓤 H A at-mem run)) where
     walk : Room u8 (length (file .now)) → Room u64 (length (cells .now)) → Nine xs → length xs ≡ 9 → n < 2 ^ 64
-        → ent 𝓤 (onEntry 𝓤 H A fn.signature (κ₀, (κ₁, tt)) (q₀, (q₁, tt)) x at) (WpFn 𝓤 H C Λ code.function (s₀ ∷ s₁ ∷ machs xs ∷ vint w64 n ∷ []) Post)
+        → ent 𝓤 (onEntry 𝓤 H A fn.signature (κ₀, (κ₁, tt)) (q₀, (q₁, tt)) x at) (WpFn 𝓤 H C Λ code.function (slice file ∷ slice cells ∷ machs xs ∷ vint w64 n ∷ []) Post)
     walk room₀ room₁ nine long gn =
         qed W ((‵ (flft κ₀ q₀) ⊛ ‵ (flft κ₁ q₁) ⊛ ‵ ftrue) ∷ ‵ (owns (ShrSlice (named 0) κ₀ u8 ∷ MutSlice (named 1) κ₁ u64 ∷ Array T.the-row 9 ∷ usize ∷ []) x at) ∷ []) ∵
-        move ! (1 ∷ []) $ fsplit ! $ use1 W (‵ OwnT ⊛ ‵ OwnT) (shr-slice-copy 𝓤 H A W (named 0) κ₀ u8 .twice file (s₀ ∷ [])) $ split ! $ move ! (2 ∷ []) $ fsplit ! $
-        move ! (4 ∷ []) $ split ! $ move ! (1 ∷ []) $ split ! $ keep ! (5 ∷ 6 ∷ 3 ∷ 2 ∷ 0 ∷ []) $ enter ! C Λ code.function (s₀ ∷ s₁ ∷ machs xs ∷ vint w64 n ∷ []) _ $
+        move ! (1 ∷ []) $ fsplit ! $ use1 W (‵ (OwnFile κ₀ file) ⊛ ‵ (OwnFile κ₀ file)) (shr-slice-copy 𝓤 H A W (named 0) κ₀ u8 .twice file (slice file ∷ [])) $ split ! $ move ! (2 ∷ []) $ fsplit ! $
+        move ! (4 ∷ []) $ split ! $ move ! (1 ∷ []) $ split ! $ keep ! (5 ∷ 6 ∷ 3 ∷ 2 ∷ 0 ∷ []) $ enter ! C Λ code.function (slice file ∷ slice cells ∷ machs xs ∷ vint w64 n ∷ []) _ $
         alloc1 ! (λ l0. alloc1 ! (λ l1. alloc1 ! (λ l2. alloc1 ! (λ l3. alloc1 ! (λ l4. alloc1 ! (λ l5. alloc1 ! (λ l6. alloc1 ! (λ l7. alloc1 ! (λ l8. alloc1 ! (λ l9.
         alloc1 ! (λ l10. alloc1 ! (λ l11. alloc1 ! (λ l12. alloc0 ! $ params1 ! $ pass1 ! (init ! 22 refl (tt, (tt, (record { fits = room₀ .0 }, tt)))) $
         pass1 ! (init ! 20 refl (tt, (tt, (record { fits = room₁ .0 }, tt)))) $
@@ -196,9 +188,10 @@ module _ {M : Type 1} (𝓤 : URA M) (H : Heap 𝓤) (A : Atoms 𝓤) (W : Given
         assigns ! (agg ! (and-then ! (load ! (from ! (stop !)) (look ! 8 refl)) (and-then ! (load ! (from ! (fld ! refl (stop !))) (look-in ! 20 (sub ! 1 refl (whole !)))) (no-more !)))) (from ! (stop !)) (init ! 6 refl (tt, (tt, (record { fits = room₁ .0 }, tt)))) $
         assigns ! (addr ! (from ! (stop !))) (from ! (stop !)) (init ! 4 refl (tt, tt)) $
         assigns ! (agg ! (and-then ! (load ! (from ! (stop !)) (look ! 4 refl)) (and-then ! (load ! (from ! (stop !)) (look ! 14 refl)) (no-more !)))) (from ! (stop !)) (init ! 2 refl (tt, (tt, (record { fits = im .1 }, tt)))) $
-        rewrite ! 2 (λ (k : ℕ). ‵ (fat fullShare (sliceTy (tyRef erased mut (pointee (T.the-row .written)))) l11 0 (sliceVal (l6, 0) k))) (sym short) refl $ move ! (12 ∷ []) $
-        use1 W (‵ (lie 𝓤 H A W (take m xs) l6 0) ⊛ ‵ (lie 𝓤 H A W (dropN m xs) l6 (place 32 0 (length (take m xs))))) (parted 𝓤 H A W xs m l6 nine) $ split ! $ lft-new ! tt (λ α.
-        move ! (1 ∷ []) $
+        rewrite ! 2 (λ (k : ℕ). ‵ (fat fullShare (sliceTy (tyRef erased mut (pointee (T.the-row .written)))) l11 0 (sliceVal (l6, 0) k))) (sym short) refl $
+        -- [_12 to _0; the file, to pass on; the file; the cells; token 0; token 1]
+        move ! (12 ∷ []) $ use1 W (‵ (lie 𝓤 H A W (take m xs) l6 0) ⊛ ‵ (lie 𝓤 H A W (dropN m xs) l6 (place 32 0 (length (take m xs))))) (parted 𝓤 H A W xs m l6 nine) $ split ! $
+        lft-new ! tt (λ α. move ! (1 ∷ []) $
         use1 W (later (some (λ (γ : GName). ‵ (MutSlice (named 2) (α ∷ []) T.the-row .own (lent m l6 γ) (s m l6 ∷ [])) ⊛ ‵ (flent (α ∷ []) (Held T.the-row (length (take m xs)) l6 0 γ))))) (lends-slice 𝓤 H A W T.the-row (named 2) (α ∷ []) (take m xs) l6 0 room) $
         await ! tt $ pick ! (λ γ. split ! $ nothing ! $ move ! (1 ∷ 0 ∷ []) $ fjoin ! $ move ! (31 ∷ 0 ∷ []) $ fjoin ! $ move ! (29 ∷ 0 ∷ []) $ fjoin ! $ nothing ! $
         move ! (3 ∷ 0 ∷ []) $ join ! $ move ! (31 ∷ 0 ∷ []) $ join ! $ move ! (30 ∷ 0 ∷ []) $ join ! $
@@ -210,8 +203,9 @@ module _ {M : Type 1} (𝓤 : URA M) (H : Heap 𝓤) (A : Atoms 𝓤) (W : Given
         pick ! (λ zs. split ! $ move ! (1 ∷ []) $ heard ! (StartSaid (file .now) (cells .now) (take m xs) (zs .1 .0) (zs .1 .1 .0) a) (λ e. fsplit ! $ drop ! $ fsplit ! $
         fsplit ! $ move ! (1 ∷ []) $ feqL ! (λ lc. move ! (1 ∷ []) $ fsplit ! $ fsplit ! $ move ! (1 ∷ []) $ feqL ! (λ ly. move ! (1 ∷ []) $ drop ! $ move ! (2 ∷ []) $ split ! $
         move ! (1 ∷ []) $ peeks ! N.the-row (Is N.the-row) (shows 𝓤 H A N.the-row) a (v₁ ∷ []) (λ is. drop ! $
-        land ! (from ! (stop !)) (init ! 15 refl (EL.lawful N.the-type N′.the-laws 𝓤 H A W tt .typed a _ is .0)) $ split ! $ move ! (1 ∷ []) $ split ! $ move ! (1 ∷ []) $
-        split ! $ lft-end ! tt $ move ! (0 ∷ 6 ∷ 4 ∷ []) $
+        land ! (from ! (stop !)) (init ! 15 refl (EL.lawful N.the-type N′.the-laws 𝓤 H A W tt .typed a _ is .0)) $
+        -- [tokens; the row's last list; the cells' last list; the lender's part; the others; _12 to _0; the file]
+        split ! $ move ! (1 ∷ []) $ split ! $ move ! (1 ∷ []) $ split ! $ lft-end ! tt $ move ! (0 ∷ 6 ∷ 4 ∷ []) $
         use3 W (later (‵ (Arr (mem T.the-row) (length (take m xs)) .lies (zs .1 .1 .0) l6 0))) (slice-back 𝓤 H A W T.the-row (α ∷ []) γ (zs .1 .1 .0) (length (take m xs)) l6 0) $
         await ! tt $ fsplit ! $ drop ! $ rewrite ! 5 (λ (k : ℕ). ‵ (lie 𝓤 H A W (dropN m xs) l6 (place 32 0 k))) (sym ly) refl $
         let whole-long : length (zs .1 .1 .0 ++ dropN m xs) ≡ 9 = length-append (zs .1 .1 .0) (dropN m xs) ∙ omega (arith, length-drop m xs, long, few, short, ly) in
@@ -225,12 +219,13 @@ module _ {M : Type 1} (𝓤 : URA M) (H : Heap 𝓤) (A : Atoms 𝓤) (W : Given
         await ! tt $ pick ! (λ r. split ! $ move ! (1 ∷ []) $
         use1 W (raw (fact 𝓤 ((r .row ≡ (zs .1 .1 .0 ++ dropN m xs)) × (r .answer ≡ a)))) (after-said 𝓤 H A at-mem run (zs .1 .1 .0 ++ dropN m xs) a r) $
         heard ! ((r .row ≡ (zs .1 .1 .0 ++ dropN m xs)) × (r .answer ≡ a)) (λ eo. split ! $ drop ! $ peeks ! O.the-row (Is O.the-row) (shows 𝓤 H A O.the-row) r (v₂ ∷ []) (λ io.
-        land ! (from ! (stop !)) (init ! 29 refl (LL.lawful O.the-type O′.the-laws 𝓤 H A W .typed r _ io .0)) $ returns ! (look ! 29 refl) $ forget ! 6 refl $ forget ! 8 refl $
-        forget ! 10 refl $ forget ! 12 refl $ forget ! 14 refl $ forget ! 16 refl $ forget ! 1 refl $ forget ! 19 refl $ forget ! 21 refl $ forget ! 23 refl $ forget ! 25 refl $
-        forget ! 27 refl $ forget ! 29 refl $ move ! (29 ∷ 30 ∷ []) $ free1 ! $ move ! (27 ∷ 28 ∷ []) $ free1 ! $ move ! (25 ∷ 26 ∷ []) $ free1 ! $ move ! (23 ∷ 24 ∷ []) $
-        free1 ! $ move ! (21 ∷ 22 ∷ []) $ free1 ! $ move ! (19 ∷ 20 ∷ []) $ free1 ! $ move ! (1 ∷ 18 ∷ []) $ free1 ! $ move ! (15 ∷ 16 ∷ []) $ free1 ! $ move ! (13 ∷ 14 ∷ []) $
-        free1 ! $ move ! (11 ∷ 12 ∷ []) $ free1 ! $ move ! (9 ∷ 10 ∷ []) $ free1 ! $ move ! (7 ∷ 8 ∷ []) $ free1 ! $ move ! (5 ∷ 6 ∷ []) $ free1 ! $ free0 ! $
-        keep ! (3 ∷ 2 ∷ 5 ∷ 4 ∷ 0 ∷ []) $
+        land ! (from ! (stop !)) (init ! 29 refl (LL.lawful O.the-type O′.the-laws 𝓤 H A W .typed r _ io .0)) $
+        -- [the result; _6; tokens; token 1; token 0; the cells' last list; _12 to _0; the file]
+        returns ! (look ! 29 refl) $ forget ! 6 refl $ forget ! 8 refl $ forget ! 10 refl $ forget ! 12 refl $ forget ! 14 refl $ forget ! 16 refl $ forget ! 1 refl $
+        forget ! 19 refl $ forget ! 21 refl $ forget ! 23 refl $ forget ! 25 refl $ forget ! 27 refl $ forget ! 29 refl $ move ! (29 ∷ 30 ∷ []) $ free1 ! $
+        move ! (27 ∷ 28 ∷ []) $ free1 ! $ move ! (25 ∷ 26 ∷ []) $ free1 ! $ move ! (23 ∷ 24 ∷ []) $ free1 ! $ move ! (21 ∷ 22 ∷ []) $ free1 ! $ move ! (19 ∷ 20 ∷ []) $ free1 ! $
+        move ! (1 ∷ 18 ∷ []) $ free1 ! $ move ! (15 ∷ 16 ∷ []) $ free1 ! $ move ! (13 ∷ 14 ∷ []) $ free1 ! $ move ! (11 ∷ 12 ∷ []) $ free1 ! $ move ! (9 ∷ 10 ∷ []) $ free1 ! $
+        move ! (7 ∷ 8 ∷ []) $ free1 ! $ move ! (5 ∷ 6 ∷ []) $ free1 ! $ free0 ! $ keep ! (3 ∷ 2 ∷ 5 ∷ 4 ∷ 0 ∷ []) $
         by ! (exits r v₂ (zs .1 .0) (start-first (file .now) (cells .now) xs n m (zs .1 .0) (zs .1 .1 .0) a (r .row) (r .answer) em e (eo .0) (eo .1)) lc nine gn))))))))))))))))))))))))))))))))
 
 module _ {M : Type 1} (𝓤 : URA M) (H : Heap 𝓤) (A : Atoms 𝓤) (W : Given 𝓤 H A) (at-mem : Memory → SProp 𝓤) (run : Routine → Fun 𝓤) where
