@@ -28,11 +28,17 @@ use Rattle.machine.proofs.WaitFree.{bound-ceiling, pending-steps}
 use Rattle.machine.specs.Kind.{off}
 use Rattle.stepping.specs.declared.record.Task.{Task}
 use Rattle.stepping.specs.declared.call.StartAnswer.the-variants.{Started}
-use Rattle.stepping.specs.Call.{startOf}
+use Rattle.stepping.specs.Call.{startOf, taskAt}
 use Rattle.stepping.specs.Encoding.{ObjectTable, objectOf, encodeCells}
 use Rattle.stepping.specs.Runs.{Outcome, startStore, serveOf, runOf, historyOf, shownBy, encodeConfig}
-use Rattle.stepping.proofs.Simulation.{ceiling, InRange, serve-simulates, run-simulates, history-simulates}
+use Rattle.stepping.proofs.Simulation.{ceiling, InRange, serve-simulates, run-simulates, history-simulates, access-simulates}
 use Rattle.stepping.proofs.Starts.{Starts, start-cells, start-simulates}
+use Rattle.stepping.specs.Statement.{accessOf}
+use Rattle.stepping.proofs.Accesses.{encodeAccess}
+use Rattle.machine.specs.History.{Pends, pending}
+use Rattle.machine.proofs.OwnSteps.{own-record}
+use Rattle.machine.proofs.Pending.{pending-is}
+use Rattle.machine.specs.Points as machine
 
 -- Every list of calls leads from a good start state to a configuration in range.
 reached : (b : Object) (n q : ℕ) → 1 ≤ n → b .good q ≡ true → (xs : List Call) → InRange b n (run b n xs (start q))
@@ -70,7 +76,7 @@ module _ (file : List ℕ) (shape : Shape) (table : ObjectTable file shape) (cel
   abbrev machineRun : List Call → Config
   machineRun xs = run (objectOf file shape table) n xs (start (shape .start))
 
-  good : objectOf file shape table .good (shape .start) ≡ true
+  pub good : objectOf file shape table .good (shape .start) ≡ true
   good = lt-ltb _ _ (accepted-fitting file shape (table .accepted) .start-below)
 
   in-range : (xs : List Call) → InRange (objectOf file shape table) n (machineRun xs)
@@ -89,6 +95,13 @@ module _ (file : List ℕ) (shape : Shape) (table : ObjectTable file shape) (cel
 
     pub answer-started : (x : Call) → serveOf file x (runOf file xs (startStore file cells row)) .answer ≡ serve (objectOf file shape table) (length row) x (run (objectOf file shape table) (length row) xs (start (shape .start))) .answer
     answer-started x = rw run-started (ap (λ (out : Outcome). out .answer) (serve-simulates file shape table n (starts .some) (starts .most) x (machineRun xs) (in-range xs)))
+
+    -- The access of a pending task's next step is the machine's.
+    pub access-started : (t o s : ℕ) → pending (history (objectOf file shape table) (length row) xs (start (shape .start))) t ≡ Pends o s
+        → accessOf file (length row) t (taskAt (runOf file xs (startStore file cells row) .row) t) ≡ encodeAccess (machine.accessOf (objectOf file shape table) t (run (objectOf file shape table) (length row) xs (start (shape .start))))
+    access-started t o s e =
+        let r = own-record (objectOf file shape table) n (machineRun xs) (in-range xs .formed) t o s (sym (pending-is (objectOf file shape table) n xs (shape .start) t) ∙ e) in
+        rw run-started (access-simulates file shape table n (starts .some) (starts .most) (machineRun xs) (in-range xs) t (r .below) (r .works))
 
     -- A begin or a step of a run is refused with 7 to 10 alone: 4, 11 and 12 never occur.
     pub refused-started : (x : Call) (reason : Refusal) → serveOf file x (runOf file xs (startStore file cells row)) .answer ≡ Refused reason → (7 ≤ numberOf reason) × (numberOf reason ≤ 10)

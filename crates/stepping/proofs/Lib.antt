@@ -16,3 +16,4 @@ pub mod Nexts
 pub mod Simulation
 pub mod Starts
 pub mod Demands
+pub mod Theorem

@@ -35,9 +35,10 @@ use Rattle.stepping.specs.Encoding.{ObjectTable, objectOf, encodeCells, 
 use Rattle.stepping.specs.Runs.{serveOf, runOf, historyOf, encodeConfig, encodeServed}
 use Rattle.stepping.proofs.Tables.{tabulate-length, tabulate-at, tabulate-set}
 use Rattle.stepping.proofs.Records.{pending-read, pending-number, idle-kept, idle-read}
-use Rattle.stepping.proofs.Accesses.{encodeResult, cells-length, touched-in-form, result-simulates, perform-simulates}
+use Rattle.stepping.proofs.Accesses.{encodeAccess, encodeResult, cells-length, touched-in-form, result-simulates, perform-simulates}
 use Rattle.stepping.proofs.Plans.{plan-simulates, plan-formed, entry-in-range}
 use Rattle.stepping.proofs.Nexts.{next-simulates, advance-simulates, answer-simulates}
+use Rattle.stepping.specs.Statement.{accessOf as wordAccess}
 
 -- The ceiling of own steps with n tasks.
 abbrev pub ceiling : ℕ → ℕ
@@ -96,6 +97,13 @@ module _ (file : List ℕ) (shape : Shape) (table : ObjectTable file shape) (n :
     -- The access, and what follows for the record, of a pending operation's step.
     abbrev accessOf : machine.Access
     accessOf = plan object i (c .task i .priority) (c .task i .operation) (c .task i .phase)
+
+    pub access-simulates : i < n → off (kind (c .task i .phase)) ≡ false → wordAccess file n i (taskAt (encodeRow n (c .task)) i) ≡ encodeAccess accessOf
+    unfolding wordAccess
+    access-simulates below e =
+        let t = range .formed .task i below in
+        rw (task-at below, admits, pending-read file shape table n some most (ceiling n) (c .task i) t e (range .timely i below e))
+        (plan-simulates file shape table n most i (c .task i .priority) (c .task i .operation) (c .task i .steps) below (c .task i .phase) (t .phase))
 
     abbrev nextIn : Next
     nextIn = nextOf file shape i (encodeTask (c .task i)) (kept (c .task i .phase) .phase) (encodeResult (result accessOf (c .memory)))

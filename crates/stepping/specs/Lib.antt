@@ -4,3 +4,5 @@ pub mod Step
 pub mod Call
 pub mod Encoding
 pub mod Runs
+pub mod Statement
+pub mod Cases
