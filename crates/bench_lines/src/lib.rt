@@ -1,0 +1,2 @@
+// The bench: what its input lines mean, and the lines that it prints.
+pub mod command;
