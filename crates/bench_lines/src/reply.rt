@@ -1,0 +1,89 @@
+// What a served line is answered with, and the lines that are printed.
+use crate::text;
+use crate::text::Base;
+use refusal::Refusal;
+ghost use mathlib.Core.Path.{_≡_};
+ghost use Prim.Native.Nat.{_≤_};
+ghost use lib.ListN.{length, take};
+ghost use Rattle.io.specs.Counts.{Counts};
+ghost use Rattle.bench_lines.specs.Line.{numberLine, replyLine, mostCells, cellsLine};
+
+// An accepted begin and a step that answers running print nothing.
+pub enum Reply {
+    Silent,
+    Started {
+        tasks: u16,
+        states: u16,
+        operations: u16,
+    },
+    Ended {
+        task: u16,
+        response: u16,
+    },
+    Refused(Refusal),
+}
+
+// A line of output: the first `len` bytes.
+pub struct Text {
+    pub bytes: [u8; 256],
+    pub len: usize,
+}
+
+const MOST_CELLS: usize = 9;
+
+const NEWLINE: u8 = 10;
+
+// A letter and numbers in decimal.
+fn number_line(letter: u8, values: &[u64]) -> Text
+    requires { ⌜ length (now values) ≤ 3 ⌝ }
+    ensures { λ r. ⌜ Counts (r .len) (r .bytes) × (take (r .len) (r .bytes) ≡ numberLine letter (now (values .entry))) ⌝ }
+{
+    let mut bytes = [0u8; 256];
+    let out: &mut [u8] = &mut bytes;
+    let start = text::put_byte(out, 0, letter);
+    let end = text::put_fields(out, start, Base::Decimal, values);
+    let len = text::put_byte(out, end, NEWLINE);
+    Text { bytes, len }
+}
+
+// The line of a reply; a silent one has no bytes.
+pub fn reply_line(reply: Reply) -> Text
+    ensures { λ r. ⌜ Counts (r .len) (r .bytes) × (take (r .len) (r .bytes) ≡ replyLine reply) ⌝ }
+{
+    match reply {
+        Reply::Silent => Text {
+            bytes: [0u8; 256],
+            len: 0,
+        },
+        Reply::Started { tasks, states, operations } => {
+            number_line(b'n', &[tasks as u64, states as u64, operations as u64])
+        }
+        Reply::Ended { task, response } => number_line(b'r', &[task as u64, response as u64]),
+        Reply::Refused(cause) => number_line(b'x', &[refusal::number(cause) as u64]),
+    }
+}
+
+// The line of the cells, of which there are at most nine.
+pub fn cells_line(cells: &[u64]) -> Text
+    ensures { λ r. ⌜ Counts (r .len) (r .bytes) × (take (r .len) (r .bytes) ≡ cellsLine (take mostCells (now (cells .entry)))) ⌝ }
+{
+    let count = if cells.len() < MOST_CELLS {
+        cells.len()
+    } else {
+        MOST_CELLS
+    };
+    few_cells_line(&cells[..count])
+}
+
+fn few_cells_line(cells: &[u64]) -> Text
+    requires { ⌜ length (now cells) ≤ mostCells ⌝ }
+    ensures { λ r. ⌜ Counts (r .len) (r .bytes) × (take (r .len) (r .bytes) ≡ cellsLine (now (cells .entry))) ⌝ }
+{
+    let mut bytes = [0u8; 256];
+    let out: &mut [u8] = &mut bytes;
+    let start = text::put_byte(out, 0, b'm');
+    let end = text::put_fields(out, start, Base::Hexadecimal, cells);
+    let last = text::put_field(out, end, Base::Decimal, cells::count::count_marks(cells));
+    let len = text::put_byte(out, last, NEWLINE);
+    Text { bytes, len }
+}
