@@ -9,7 +9,8 @@ use native.Mathlib.Omega.{arith}
 use borrow.Author.Tests.{lt-ltb, le-ltb, leb-true, leb-false}
 use lib.Dec.{leb, ltb}
 use lib.ListN.{length, take, drop, getD, set, length-append}
-use lib.Seq.{take-suc, take-suc-set}
+use lib.Seq.{take-suc, take-suc-set, length-take-le}
+use Rattle.io.specs.Counts.{Counts}
 use Rattle.io.specs.Digits.{digits, glyph, Fewest}
 use Rattle.bench_lines.specs.Command.{zeroDigit}
 use Rattle.bench_lines.specs.Line.{Appended, decimalIn, decimal, hexadecimal, partedIn, fieldOf}
@@ -129,3 +130,14 @@ field-length Hexadecimal n = omega (arith, hexadecimal-most n)
 -- The same bytes under another name.
 pub appended-as : (before : List ℕ) (at : ℕ) (added other after : List ℕ) (end : ℕ) → added ≡ other → Appended before at added after end → Appended before at other after end
 appended-as before at added other after end e = subst (λ (bs : List ℕ). Appended before at bs after end) e
+
+-- A field for each number has at most 21 bytes for each.
+pub parted-length : (base : Base) (ns : List ℕ) → length (partedIn base ns) ≤ 21 * length ns
+unfolding partedIn
+parted-length base [] = omega arith
+parted-length base (n ∷ ns) =
+    omega (arith, length-append (fieldOf base n) (partedIn base ns), field-length base n, parted-length base ns)
+
+-- A text from the start of a buffer is the buffer's first bytes.
+pub closed : (before text after : List ℕ) (end : ℕ) → Appended before 0 text after end → end ≤ length after → Counts end after × (take end after ≡ text)
+closed before text after end a h = ((h, sym (length-take-le end after h)), a .1)

@@ -62,6 +62,10 @@ cellsLine cells = lineOf 109 (partedIn Hexadecimal cells ++ fieldOf Decimal (mar
 abbrev pub mostCells : ℕ
 mostCells = 9
 
+-- Room for the longest line.
+abbrev pub textSize : ℕ
+textSize = 256
+
 -- What a text before `at` and appended bytes leave in a buffer: the end, and the bytes before it.
 abbrev pub Appended : (before : List ℕ) (at : ℕ) (added after : List ℕ) (end : ℕ) → Type 0
 Appended before at added after end = (end ≡ at + length added) × (take end after ≡ take at before ++ added)
