@@ -15,7 +15,6 @@ use Rattle.cells.specs.declared.ceiling.Ceiling.the-variants as ceiling
 use Rattle.table.specs.declared.Shape.{Shape}
 use Rattle.table.specs.declared.Checked.{Checked}
 use Rattle.table.specs.declared.Checked.the-variants as table
-use Rattle.stepping.specs.declared.call.Admitted.{Admitted}
 use Rattle.stepping.specs.declared.call.Admitted.the-variants as admitted
 use Rattle.table.specs.Layout.{layoutOf}
 use Rattle.stepping.specs.Call.{withCeiling, withRow, admitOf}

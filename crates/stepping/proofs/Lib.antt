@@ -4,3 +4,6 @@ pub mod Defaults
 pub mod Admission
 pub mod Ready
 pub mod Parts
+pub mod Refused
+pub mod Local
+pub mod Started

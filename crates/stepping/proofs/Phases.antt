@@ -1,9 +1,9 @@
 -- Which number has which phase, and the task that a phase works for.
 use mathlib.Core.Path.{_≡_, refl, sym, ap, subst, _∙_}
-use mathlib.Core.Bool.{Bool, true, false, cond, _&&_, _||_}
+use mathlib.Core.Bool.{Bool, true, false, cond, _&&_}
 use Prim.Native.Nat.{ℕ, zero, suc, _+_, _-_, _%_, _≤_, _<_}
 use native.Mathlib.Omega.{arith}
-use borrow.Author.Tests.{ne-eqb, le-leb, lt-leb, lt-ltb, le-ltb, ltb-true, leb-true}
+use borrow.Author.Tests.{ne-eqb, le-leb, lt-leb, le-ltb, ltb-true, leb-true}
 use lib.Arith.{lt-of-le-ne}
 use lib.Dec.{eqb, leb, ltb}
 use Rattle.cells.proofs.Tests.{and-left, and-right}
@@ -12,7 +12,7 @@ use Rattle.stepping.specs.declared.phase.Phase.{Phase}
 use Rattle.stepping.specs.declared.phase.Phase.the-variants.{Idle, ReadOnly, Announce, Poll, LoadHead, LinkHead, LoadPriority, LoadOwn, LoadExit, LinkExit, ClearExit, ReleaseExit, Retract, ClearHead, ReloadClear, Apply, ReloadApply, LoadHelped, LinkHelped, Validate, HandOver, ReloadHandOver, Release, ReloadRelease}
 use Rattle.stepping.specs.declared.phase.PhaseRead.{PhaseRead}
 use Rattle.stepping.specs.declared.phase.PhaseRead.the-variants.{Known, Refused}
-use Rattle.stepping.specs.Phase.{phaseNumber, just, range, phaseOf}
+use Rattle.stepping.specs.Phase.{phaseNumber, range, phaseOf}
 use Rattle.stepping.specs.Record.{namesTask}
 
 -- The task that a phase works for is below n; a phase that works for none asks nothing.

@@ -1,6 +1,6 @@
 -- The calls of document 01 on lists of words and records: the tests in their order, the first cause that holds, what is
 -- left and what is answered.
-use mathlib.Core.Bool.{Bool, true, false, cond}
+use mathlib.Core.Bool.{true, false, cond}
 use mathlib.Core.List.{List, [], _∷_, _++_}
 use Prim.Native.Nat.{ℕ, zero, suc, _+_}
 use lib.Dec.{eqb, ltb}
@@ -24,7 +24,6 @@ use Rattle.stepping.specs.declared.phase.Phase.the-variants as phase
 use Rattle.stepping.specs.declared.phase.PhaseRead.{PhaseRead}
 use Rattle.stepping.specs.declared.phase.PhaseRead.the-variants as record-phase
 use Rattle.stepping.specs.declared.access.Access.{Access}
-use Rattle.stepping.specs.declared.access.Next.{Next}
 use Rattle.stepping.specs.declared.access.Answer.{Answer}
 use Rattle.stepping.specs.declared.access.Answer.the-variants as step
 use Rattle.stepping.specs.declared.call.Admitted.{Admitted}
@@ -35,7 +34,6 @@ use Rattle.stepping.specs.declared.call.StartAnswer.the-variants as star
 use Rattle.stepping.specs.declared.call.BeginAnswer.{BeginAnswer}
 use Rattle.stepping.specs.declared.call.BeginAnswer.the-variants as begin
 use Rattle.stepping.specs.declared.call.Begin.{Begin}
-use Rattle.stepping.specs.declared.call.Step.{Step}
 use Rattle.stepping.specs.Phase.{phaseNumber}
 use Rattle.stepping.specs.Record.{idleTask, readRecord}
 use Rattle.stepping.specs.Step.{planOf, touched, foundOf, performOf, cellInForm, usedInRange, nextOf, advanceOf, answerOf}

@@ -1,6 +1,6 @@
 -- The forms of a task's record, with a table's shape, n tasks and their ceiling. docs/RECORDS.md says the same in words.
 use mathlib.Core.Bool.{Bool, true, cond, _&&_, _||_}
-use Prim.Native.Nat.{ℕ, _%_, _^_}
+use Prim.Native.Nat.{ℕ, _%_}
 use lib.Dec.{eqb, leb, ltb}
 use Rattle.refusal.specs.declared.Refusal.the-variants as cause
 use Rattle.cells.specs.Form.{headInForm, announcementInForm}

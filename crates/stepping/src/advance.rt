@@ -7,7 +7,7 @@ use crate::phase::Phase;
 use crate::record;
 use crate::record::Task;
 ghost use mathlib.Core.Path.{_≡_};
-ghost use Prim.Native.Nat.{_+_, _%_, _<_, _≤_};
+ghost use Prim.Native.Nat.{_+_, _%_, _<_};
 ghost use Rattle.stepping.specs.Phase.{phaseNumber};
 ghost use Rattle.stepping.specs.Step.{advanceOf, answerOf};
 
@@ -19,34 +19,35 @@ fn turned(tasks: usize, priority: u16) -> u16
     ((priority as usize + 1) % tasks) as u16
 }
 
-// The record in another phase, and one step more.
+// The record in another phase, after so many steps.
 fn stepped(
     own: Task,
+    steps: u32,
     priority: u16,
     next: Phase,
     payload: u32,
     head: u64,
     announcement: u64,
 ) -> Task
-    requires { ⌜ own .steps < 1000000 ⌝ }
-    ensures { λ r. ⌜ r ≡ record { head = head; announcement = announcement; payload = payload; steps = own .steps + 1; operation = own .operation; priority = priority; phase = phaseNumber next } ⌝ }
+    ensures { λ r. ⌜ r ≡ record { head = head; announcement = announcement; payload = payload; steps = steps; operation = own .operation; priority = priority; phase = phaseNumber next } ⌝ }
 {
     Task {
         head,
         announcement,
         payload,
-        steps: own.steps + 1,
+        steps,
         operation: own.operation,
         priority,
         phase: phase::phase_number(next),
     }
 }
 
-// The record after a step, and the answer; one that ended is idle.
+// The record after a step, and the answer; one that ended is idle. The count takes in this step.
 pub fn advance(tasks: usize, own: Task, next: Next) -> Step
     requires { ⌜ (0 < tasks) × (tasks < 256) × (own .steps < 1000000) ⌝ }
     ensures { λ r. ⌜ r ≡ record { task = advanceOf tasks own next; answer = answerOf own next } ⌝ }
 {
+    let steps = own.steps + 1;
     match next {
         Next::Go {
             phase,
@@ -54,19 +55,24 @@ pub fn advance(tasks: usize, own: Task, next: Next) -> Step
             head,
             announcement,
         } => Step {
-            task: stepped(own, own.priority, phase, payload, head, announcement),
+            task: stepped(own, steps, own.priority, phase, payload, head, announcement),
             answer: Answer::Running,
         },
         Next::Turn => Step {
-            task: stepped(own, turned(tasks, own.priority), Phase::Poll, 0, 0, 0),
+            task: stepped(
+                own,
+                steps,
+                turned(tasks, own.priority),
+                Phase::Poll,
+                0,
+                0,
+                0,
+            ),
             answer: Answer::Running,
         },
         Next::End { response } => Step {
             task: record::idle_task(own.priority),
-            answer: Answer::Ended {
-                response,
-                steps: own.steps + 1,
-            },
+            answer: Answer::Ended { response, steps },
         },
     }
 }

@@ -260,7 +260,7 @@ fn step_in(
     if cells.len() != tasks + 1 {
         return refuse_step(own, Refusal::Cells);
     }
-    if task >= tasks {
+    if tasks <= task {
         return refuse_step(own, Refusal::Task);
     }
     let read = record::read_record(shape, tasks, ceiling, own);

@@ -2,9 +2,6 @@ use borrow.Author.Needs.{needs}
 use Rattle.stepping.proofs.advance.stepped.Statement.{statement}
 use Rattle.stepping.proofs.advance.stepped.Tie as tie
 
-add-t7 : tie.Need-add-t7
-add-t7 c = search needs
-
 phase-number-requires : tie.Need-phase-number-requires
 phase-number-requires c κs = search needs
 
@@ -12,4 +9,4 @@ returns : tie.Need-returns
 returns c = simp (c .phase-number .ensures)
 
 pub stepped-spec : {M : Type 1} → statement M
-stepped-spec = tie.close (tie.spec add-t7 phase-number-requires returns)
+stepped-spec = tie.close (tie.spec phase-number-requires returns)

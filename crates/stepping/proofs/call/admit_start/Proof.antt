@@ -1,3 +1,4 @@
+-- The table and the row decide, and then the number of cells.
 use mathlib.Core.Path.{sym, _∙_}
 use borrow.Author.Tests.{eq-eqb, ne-eqb}
 use Rattle.stepping.specs.Call.{admitStartOf}

@@ -1,3 +1,4 @@
+-- The tests in their order, then the record's form.
 use mathlib.Core.Path.{sym, _∙_}
 use borrow.Author.Tests.{le-ltb, lt-ltb, not-false, not-true}
 use borrow.Author.Needs.{needs}

@@ -1,3 +1,4 @@
+-- The idle test, the plan, the tests of cell and entry, the access and what follows, put together by the laws of Parts.
 use mathlib.Core.Path.{sym, ap, subst, _∙_}
 use Prim.Native.Nat.{ℕ, _<_}
 use borrow.Author.Needs.{needs, scaled-fits}

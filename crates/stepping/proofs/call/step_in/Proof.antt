@@ -1,3 +1,4 @@
+-- The tests in their order; a record in form tells what the step needs.
 use mathlib.Core.Path.{sym, _∙_}
 use borrow.Author.Needs.{needs}
 use borrow.Author.Tests.{eq-eqb, ne-eqb, lt-ltb, le-ltb}

@@ -1,3 +1,4 @@
+-- What is admitted has a row and a ceiling in range.
 use mathlib.Core.Path.{sym, _∙_}
 use borrow.Author.Needs.{needs}
 use Rattle.stepping.specs.Call.{stepTask}

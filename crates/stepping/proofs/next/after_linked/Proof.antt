@@ -1,3 +1,4 @@
+-- An operation goes on; the other kinds end the help.
 use mathlib.Core.Path.{sym, ap, _∙_}
 use borrow.Author.Needs.{needs}
 use Rattle.stepping.specs.Step.{afterLinkHelped}

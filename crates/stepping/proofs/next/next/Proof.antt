@@ -1,3 +1,4 @@
+-- Each arm by the phase that it matches and what came back.
 use Rattle.stepping.specs.Step.{nextOf}
 use borrow.Author.Needs.{needs}
 use Rattle.stepping.proofs.next.next.Statement.{statement}
@@ -167,99 +168,99 @@ after-reload-helped-requires-2 c κs = search needs
 
 returns : tie.Need-returns
 unfolding nextOf
-returns c = simp (c .to .ensures, c .before .enum-told .given .1, c .before .before .before .made-in .ensures, c .before .before .before .before .word-in .ensures)
+returns c = simp (c .to .ensures, c .before .enum-told .given .1)
 
 returns-2 : tie.Need-returns-2
 unfolding nextOf
-returns-2 c = simp (c .read-end .ensures, c .before .enum-told2 .given .1, c .before .before .before .made-in .ensures, c .before .before .before .before .word-in .ensures)
+returns-2 c = simp (c .read-end .ensures, c .before .enum-told2 .given .1, c .before .before .before .before .word-in .ensures)
 
 returns-3 : tie.Need-returns-3
 unfolding nextOf
-returns-3 c = simp (c .to2 .ensures, c .before .enum-told3 .given .1, c .before .before .before .made-in .ensures, c .before .before .before .before .word-in .ensures)
+returns-3 c = simp (c .to2 .ensures, c .before .enum-told3 .given .1)
 
 returns-4 : tie.Need-returns-4
 unfolding nextOf
-returns-4 c = simp (c .after-poll .ensures, c .before .read-announcement .ensures, c .before .before .enum-told4 .given .1, c .before .before .before .before .made-in .ensures, c .before .before .before .before .before .word-in .ensures)
+returns-4 c = simp (c .after-poll .ensures, c .before .read-announcement .ensures, c .before .before .enum-told4 .given .1, c .before .before .before .before .before .word-in .ensures)
 
 returns-5 : tie.Need-returns-5
 unfolding nextOf
-returns-5 c = simp (c .go .ensures, c .before .enum-told5 .given .1, c .before .before .before .made-in .ensures, c .before .before .before .before .word-in .ensures)
+returns-5 c = simp (c .go .ensures, c .before .enum-told5 .given .1, c .before .before .before .before .word-in .ensures)
 
 returns-6 : tie.Need-returns-6
 unfolding nextOf
-returns-6 c = simp (c .after-link-head .ensures, c .before .enum-told6 .given .1, c .before .before .before .made-in .ensures, c .before .before .before .before .word-in .ensures)
+returns-6 c = simp (c .after-link-head .ensures, c .before .enum-told6 .given .1, c .before .before .before .made-in .ensures)
 
 returns-7 : tie.Need-returns-7
 unfolding nextOf
-returns-7 c = simp (c .after-priority .ensures, c .before .read-announcement2 .ensures, c .before .before .enum-told7 .given .1, c .before .before .before .before .made-in .ensures, c .before .before .before .before .before .word-in .ensures)
+returns-7 c = simp (c .after-priority .ensures, c .before .read-announcement2 .ensures, c .before .before .enum-told7 .given .1, c .before .before .before .before .before .word-in .ensures)
 
 returns-8 : tie.Need-returns-8
 unfolding nextOf
-returns-8 c = simp (c .after-own .ensures, c .before .read-announcement3 .ensures, c .before .before .enum-told8 .given .1, c .before .before .before .before .made-in .ensures, c .before .before .before .before .before .word-in .ensures)
+returns-8 c = simp (c .after-own .ensures, c .before .read-announcement3 .ensures, c .before .before .enum-told8 .given .1, c .before .before .before .before .before .word-in .ensures)
 
 returns-9 : tie.Need-returns-9
 unfolding nextOf
-returns-9 c = simp (c .after-load-exit .ensures, c .before .enum-told9 .given .1, c .before .before .before .made-in .ensures, c .before .before .before .before .word-in .ensures)
+returns-9 c = simp (c .after-load-exit .ensures, c .before .enum-told9 .given .1, c .before .before .before .before .word-in .ensures)
 
 returns-10 : tie.Need-returns-10
 unfolding nextOf
-returns-10 c = simp (c .after-link-exit .ensures, c .before .enum-told10 .given .1, c .before .before .before .made-in .ensures, c .before .before .before .before .word-in .ensures)
+returns-10 c = simp (c .after-link-exit .ensures, c .before .enum-told10 .given .1, c .before .before .before .made-in .ensures)
 
 returns-11 : tie.Need-returns-11
 unfolding nextOf
-returns-11 c = simp (c .after-leave .ensures, c .before .enum-told11 .given .1, c .before .before .before .made-in .ensures, c .before .before .before .before .word-in .ensures)
+returns-11 c = simp (c .after-leave .ensures, c .before .enum-told11 .given .1, c .before .before .before .made-in .ensures)
 
 returns-12 : tie.Need-returns-12
 unfolding nextOf
-returns-12 c = simp (c .after-leave2 .ensures, c .before .enum-told12 .given .1, c .before .before .before .made-in .ensures, c .before .before .before .before .word-in .ensures)
+returns-12 c = simp (c .after-leave2 .ensures, c .before .enum-told12 .given .1, c .before .before .before .made-in .ensures)
 
 returns-13 : tie.Need-returns-13
 unfolding nextOf
-returns-13 c = simp (c .end .ensures, c .before .named-by .ensures, c .before .before .enum-told13 .given .1, c .before .before .before .before .made-in .ensures, c .before .before .before .before .before .word-in .ensures)
+returns-13 c = simp (c .end .ensures, c .before .named-by .ensures, c .before .before .enum-told13 .given .1)
 
 returns-14 : tie.Need-returns-14
 unfolding nextOf
-returns-14 c = simp (c .after-clear .ensures, c .before .enum-told14 .given .1, c .before .before .before .made-in .ensures, c .before .before .before .before .word-in .ensures)
+returns-14 c = simp (c .after-clear .ensures, c .before .enum-told14 .given .1, c .before .before .before .made-in .ensures)
 
 returns-15 : tie.Need-returns-15
 unfolding nextOf
-returns-15 c = simp (c .after-reload .ensures, c .before .enum-told15 .given .1, c .before .before .before .made-in .ensures, c .before .before .before .before .word-in .ensures)
+returns-15 c = simp (c .after-reload .ensures, c .before .enum-told15 .given .1, c .before .before .before .before .word-in .ensures)
 
 returns-16 : tie.Need-returns-16
 unfolding nextOf
-returns-16 c = simp (c .after-apply .ensures, c .before .before .phase .given .1, c .before .before .before .before .made-in .ensures, c .before .before .before .before .before .word-in .ensures)
+returns-16 c = simp (c .after-apply .ensures, c .before .before .phase .given .1, c .before .before .before .before .made-in .ensures)
 
 returns-17 : tie.Need-returns-17
 unfolding nextOf
-returns-17 c = simp (c .after-reload2 .ensures, c .before .before .phase2 .given .1, c .before .before .before .before .made-in .ensures, c .before .before .before .before .before .word-in .ensures)
+returns-17 c = simp (c .after-reload2 .ensures, c .before .before .phase2 .given .1, c .before .before .before .before .before .word-in .ensures)
 
 returns-18 : tie.Need-returns-18
 unfolding nextOf
-returns-18 c = simp (c .go2 .ensures, c .before .before .phase3 .given .1, c .before .before .before .before .made-in .ensures, c .before .before .before .before .before .word-in .ensures)
+returns-18 c = simp (c .go2 .ensures, c .before .before .phase3 .given .1, c .before .before .before .before .before .word-in .ensures)
 
 returns-19 : tie.Need-returns-19
 unfolding nextOf
-returns-19 c = simp (c .after-link-helped .ensures, c .before .before .phase4 .given .1, c .before .before .before .before .made-in .ensures, c .before .before .before .before .before .word-in .ensures)
+returns-19 c = simp (c .after-link-helped .ensures, c .before .before .phase4 .given .1, c .before .before .before .before .made-in .ensures)
 
 returns-20 : tie.Need-returns-20
 unfolding nextOf
-returns-20 c = simp (c .after-validate .ensures, c .before .before .phase5 .given .1, c .before .before .before .before .made-in .ensures, c .before .before .before .before .before .word-in .ensures)
+returns-20 c = simp (c .after-validate .ensures, c .before .before .phase5 .given .1, c .before .before .before .before .before .word-in .ensures)
 
 returns-21 : tie.Need-returns-21
 unfolding nextOf
-returns-21 c = simp (c .after-help .ensures, c .before .before .phase6 .given .1, c .before .before .before .before .made-in .ensures, c .before .before .before .before .before .word-in .ensures)
+returns-21 c = simp (c .after-help .ensures, c .before .before .phase6 .given .1, c .before .before .before .before .made-in .ensures)
 
 returns-22 : tie.Need-returns-22
 unfolding nextOf
-returns-22 c = simp (c .after-reload-helped .ensures, c .before .before .phase7 .given .1, c .before .before .before .before .made-in .ensures, c .before .before .before .before .before .word-in .ensures)
+returns-22 c = simp (c .after-reload-helped .ensures, c .before .before .phase7 .given .1, c .before .before .before .before .before .word-in .ensures)
 
 returns-23 : tie.Need-returns-23
 unfolding nextOf
-returns-23 c = simp (c .after-help2 .ensures, c .before .before .phase8 .given .1, c .before .before .before .before .made-in .ensures, c .before .before .before .before .before .word-in .ensures)
+returns-23 c = simp (c .after-help2 .ensures, c .before .before .phase8 .given .1, c .before .before .before .before .made-in .ensures)
 
 returns-24 : tie.Need-returns-24
 unfolding nextOf
-returns-24 c = simp (c .after-reload-helped2 .ensures, c .before .before .phase9 .given .1, c .before .before .before .before .made-in .ensures, c .before .before .before .before .before .word-in .ensures)
+returns-24 c = simp (c .after-reload-helped2 .ensures, c .before .before .phase9 .given .1, c .before .before .before .before .before .word-in .ensures)
 
 pub next-spec : {M : Type 1} → statement M
 next-spec =

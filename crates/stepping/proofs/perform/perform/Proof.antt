@@ -1,3 +1,4 @@
+-- Each access by the cell that it names; a read and a swap that isn't made write nothing.
 use mathlib.Core.Path.{refl, sym, subst}
 use Prim.Native.Nat.{_<_}
 use borrow.Author.Tests.{eq-eqb, ne-eqb}

@@ -1,3 +1,4 @@
+-- Two phases use an entry; the default is all others.
 use borrow.Author.Needs.{needs}
 use Rattle.stepping.proofs.Defaults.{no-entry}
 use Rattle.stepping.proofs.perform.used_in_range.Statement.{statement}

@@ -1,3 +1,4 @@
+-- Each arm by the phase that it matches.
 use borrow.Author.Needs.{needs}
 use Rattle.stepping.proofs.phase.phase_number.Statement.{statement}
 use Rattle.stepping.proofs.phase.phase_number.Tie as tie

@@ -1,3 +1,4 @@
+-- Each arm by the phase that it matches and the word that it writes.
 use Rattle.stepping.specs.Step.{planOf}
 use borrow.Author.Needs.{needs}
 use Rattle.stepping.proofs.plan.plan.Statement.{statement}

@@ -1,3 +1,4 @@
+-- The tests in their order.
 use borrow.Author.Tests.{eq-eqb, le-ltb, lt-ltb, ne-eqb}
 use Rattle.stepping.specs.Record.{idleInForm}
 use borrow.Author.Needs.{needs}

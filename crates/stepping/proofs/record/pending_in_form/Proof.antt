@@ -1,3 +1,4 @@
+-- The tests in their order.
 use mathlib.Core.Path.{sym, _∙_}
 use borrow.Author.Tests.{le-ltb, lt-ltb, not-false, not-true}
 use Rattle.stepping.specs.Record.{pendingInForm}

@@ -1,3 +1,4 @@
+-- The number is read first, then the form decides.
 use mathlib.Core.Path.{sym, _∙_}
 use Rattle.stepping.specs.Record.{readRecord}
 use borrow.Author.Needs.{needs}

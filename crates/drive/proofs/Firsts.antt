@@ -1,0 +1,76 @@
+-- What a call on the first of nine records says at its exit, from what the call on their row says.
+use mathlib.Core.Path.{_≡_, refl, ap, sym, _∙_}
+use mathlib.Core.Bool.{Bool, true, false}
+use mathlib.Core.List.{List, _++_}
+use Prim.Native.Nat.{ℕ, _≤_}
+use native.Mathlib.Omega.{arith}
+use borrow.Author.Tests.{leb-true}
+use lib.Dec.{leb}
+use lib.ListN.{take, drop, take-append-drop}
+use Rattle.refusal.specs.declared.Refusal.{Refusal}
+use Rattle.stepping.specs.declared.record.Task.{Task}
+use Rattle.stepping.specs.declared.access.Answer.{Answer}
+use Rattle.stepping.specs.declared.access.Answer.the-variants as step
+use Rattle.stepping.specs.declared.call.StartAnswer.{StartAnswer}
+use Rattle.stepping.specs.declared.call.StartAnswer.the-variants as start
+use Rattle.stepping.specs.declared.call.BeginAnswer.{BeginAnswer}
+use Rattle.stepping.specs.declared.call.BeginAnswer.the-variants as begin
+use Rattle.stepping.specs.Call.{Started, startOf, Begun, beginOf, Served, stepOf}
+use Rattle.stepping.proofs.Refused.{refused-start, refused-begin-row, refused-step-row}
+use Rattle.drive.specs.First.{firstCount, startFirst, beginFirst, stepFirst}
+use Rattle.drive.proofs.Calls.{BeginSaid, StepSaid}
+use Rattle.drive.proofs.Starts.{StartSaid}
+
+-- At most nine records are lent.
+pub first-few : (n m : ℕ) → m ≡ firstCount n → m ≤ 9
+first-few n m e = rw e (at (leb n 9) refl)
+  where
+    at : (b : Bool) → leb n 9 ≡ b → firstCount n ≤ 9
+    at true e = rw e (leb-true n 9 e)
+    at false e = rw e (omega arith)
+
+pub start-first : (file cs : List ℕ) (xs : List Task) (n m : ℕ) (cs′ : List ℕ) (ys′ : List Task) (a : StartAnswer) (row : List Task) (b : StartAnswer)
+    → m ≡ firstCount n → StartSaid file cs (take m xs) cs′ ys′ a → row ≡ ys′ ++ drop m xs → b ≡ a
+    → _≡_ {A = Started} (record { cells = cs′; row = row; answer = b }) (startFirst file cs xs n)
+unfolding startFirst
+start-first file cs xs n m cs′ ys′ a row b em e er eb =
+    rw (er, eb, sym em) (ap (λ (s : Started). record { cells = s .cells; row = s .row ++ drop m xs; answer = s .answer }) e)
+
+pub begin-first : (file : List ℕ) (xs : List Task) (n m t o : ℕ) (ys′ : List Task) (a : BeginAnswer) (row : List Task) (b : BeginAnswer)
+    → m ≡ firstCount n → BeginSaid file (take m xs) t o ys′ a → row ≡ ys′ ++ drop m xs → b ≡ a
+    → _≡_ {A = Begun} (record { row = row; answer = b }) (beginFirst file xs n t o)
+unfolding beginFirst
+begin-first file xs n m t o ys′ a row b em e er eb =
+    rw (er, eb, sym em) (ap (λ (s : Begun). record { row = s .row ++ drop m xs; answer = s .answer }) e)
+
+pub step-first : (file cs : List ℕ) (xs : List Task) (n m t : ℕ) (cs′ : List ℕ) (ys′ : List Task) (a : Answer) (row : List Task) (b : Answer)
+    → m ≡ firstCount n → StepSaid file cs (take m xs) t cs′ ys′ a → row ≡ ys′ ++ drop m xs → b ≡ a
+    → _≡_ {A = Served} (record { cells = cs′; row = row; answer = b }) (stepFirst file cs xs n t)
+unfolding stepFirst
+step-first file cs xs n m t cs′ ys′ a row b em e er eb =
+    rw (er, eb, sym em) (ap (λ (s : Served). record { cells = s .cells; row = s .row ++ drop m xs; answer = s .answer }) e)
+
+-- ---- A refused call changes nothing
+
+-- The first records as they were, and the others.
+first-kept : (xs ys′ : List Task) (m : ℕ) → ys′ ≡ take m xs → ys′ ++ drop m xs ≡ xs
+first-kept xs ys′ m e = ap (λ (ys : List Task). ys ++ drop m xs) e ∙ take-append-drop m xs
+
+pub refused-start-first : (file cs : List ℕ) (xs : List Task) (n : ℕ) (reason : Refusal) → startFirst file cs xs n .answer ≡ start.Refused reason
+    → (startFirst file cs xs n .row ≡ xs) × (startFirst file cs xs n .cells ≡ cs)
+unfolding startFirst
+refused-start-first file cs xs n reason e =
+    let kept = refused-start cs (take (firstCount n) xs) file reason e in
+    (first-kept xs (startOf file cs (take (firstCount n) xs) .row) (firstCount n) (ap (λ (s : Started). s .row) kept), ap (λ (s : Started). s .cells) kept)
+
+pub refused-begin-first : (file : List ℕ) (xs : List Task) (n t o : ℕ) (reason : Refusal) → beginFirst file xs n t o .answer ≡ begin.Refused reason → beginFirst file xs n t o .row ≡ xs
+unfolding beginFirst
+refused-begin-first file xs n t o reason e =
+    first-kept xs (beginOf file (take (firstCount n) xs) t o .row) (firstCount n) (refused-begin-row file (take (firstCount n) xs) t o reason e)
+
+pub refused-step-first : (file cs : List ℕ) (xs : List Task) (n t : ℕ) (reason : Refusal) → stepFirst file cs xs n t .answer ≡ step.Refused reason
+    → (stepFirst file cs xs n t .row ≡ xs) × (stepFirst file cs xs n t .cells ≡ cs)
+unfolding stepFirst
+refused-step-first file cs xs n t reason e =
+    let kept = refused-step-row file (take (firstCount n) xs) t cs reason e in
+    (first-kept xs (stepOf file cs (take (firstCount n) xs) t .row) (firstCount n) (kept .0), kept .1)

@@ -1,0 +1,130 @@
+-- A step looks at one cell: its answer, its record and the word that it writes follow from the table, n, the record and what
+-- that cell holds, and every other cell stays as it was.
+use mathlib.Core.Path.{_≡_, refl}
+use mathlib.Core.Bool.{Bool, true, false, cond}
+use mathlib.Core.List.{List}
+use mathlib.Core.Logic.{_≢_}
+use Prim.Native.Nat.{ℕ, _+_}
+use lib.Dec.{eqb, ltb}
+use lib.ListN.{length, getD, length-set}
+use lib.Seq.{getD-set-other}
+use Rattle.refusal.specs.declared.Refusal.{Refusal}
+use Rattle.refusal.specs.declared.Refusal.the-variants as cause
+use Rattle.table.specs.declared.Shape.{Shape}
+use Rattle.stepping.specs.declared.record.Task.{Task}
+use Rattle.stepping.specs.declared.phase.Phase.{Phase}
+use Rattle.stepping.specs.declared.phase.PhaseRead.{PhaseRead}
+use Rattle.stepping.specs.declared.phase.PhaseRead.the-variants as record-phase
+use Rattle.stepping.specs.declared.access.Access.{Access}
+use Rattle.stepping.specs.declared.access.Access.the-variants.{Read}
+use Rattle.stepping.specs.declared.call.Admitted.{Admitted}
+use Rattle.stepping.specs.declared.call.Admitted.the-variants as admitted
+use Rattle.stepping.specs.Record.{readRecord}
+use Rattle.stepping.specs.Step.{planOf, touched, leftOf, performOf, cellInForm, usedInRange}
+use Rattle.stepping.specs.Call.{admitOf, Stepped, refuseStep, touch, stepFrom, stepIn, stepTask}
+use Rattle.stepping.proofs.Lists.{set-alike}
+
+-- ---- The access of a step, before a cell is looked at; a call that makes none counts as a read of the head
+
+abbrev accessFrom : List ℕ → Shape → ℕ → Task → PhaseRead → Access
+accessFrom file shape i t (record-phase.Refused c) = Read 0
+accessFrom file shape i t (record-phase.Known f) = planOf file shape i t f
+
+abbrev accessIn : List ℕ → (n i : ℕ) → Task → Admitted → Access
+accessIn file n i t (admitted.Refused c) = Read 0
+accessIn file n i t (admitted.Accepted shape c) = accessFrom file shape i t (readRecord shape n c t)
+
+unfoldable pub accessOf : List ℕ → (n i : ℕ) → Task → Access
+accessOf file n i t = accessIn file n i t (admitOf file n)
+
+-- ---- Any two lists of cells that agree on the touched cell
+
+-- Two outcomes with one answer and one record, which leave one word in cell k.
+pub record Alike (k : ℕ) (one other : Stepped) : Type 0 where
+  pub answer : one .answer ≡ other .answer
+  pub task : one .task ≡ other .task
+  pub word : getD (one .cells) k 0 ≡ getD (other .cells) k 0
+
+choice : {k : ℕ} (b : Bool) (x y x′ y′ : Stepped) → Alike k x x′ → Alike k y y′ → Alike k (cond b x y) (cond b x′ y′)
+choice true x y x′ y′ p q = p
+choice false x y x′ y′ p q = q
+
+module _ (file cells others : List ℕ) (n i : ℕ) (t : Task) (long : length cells ≡ length others) where
+  refusals : (k : ℕ) (c : Refusal) → getD cells k 0 ≡ getD others k 0 → Alike k (refuseStep cells t c) (refuseStep others t c)
+  refusals k c e = record { answer = refl; task = refl; word = e }
+
+  touches : (shape : Shape) (f : Phase) (a : Access) → getD cells (touched a) 0 ≡ getD others (touched a) 0 → Alike (touched a) (touch file shape cells n i t f a) (touch file shape others n i t f a)
+  unfolding performOf
+  touches shape f a e =
+      let k = touched a in
+      rw e
+      (choice (cellInForm shape n k (getD others k 0)) _ _ _ _
+      (choice (usedInRange file shape t (getD others k 0) f) _ _ _ _
+      (record { answer = refl; task = refl; word = set-alike cells others k (leftOf (getD others k 0) a) long e })
+      (refusals k cause.Entry e))
+      (refusals k cause.Cell e))
+
+  alike-from : (shape : Shape) (read : PhaseRead) → let k = touched (accessFrom file shape i t read) in getD cells k 0 ≡ getD others k 0 → Alike k (stepFrom file shape cells n i t read) (stepFrom file shape others n i t read)
+  alike-from shape (record-phase.Refused c) e = refusals 0 c e
+  alike-from shape (record-phase.Known f) e =
+      let a = planOf file shape i t f in
+      choice (eqb (t .phase) 0) _ _ _ _ (refusals (touched a) cause.Idle e) (touches shape f a e)
+
+  alike-in : (x : Admitted) → let k = touched (accessIn file n i t x) in getD cells k 0 ≡ getD others k 0 → Alike k (stepIn file cells n i t x) (stepIn file others n i t x)
+  alike-in (admitted.Refused c) e = refusals 0 c e
+  alike-in (admitted.Accepted shape c) e =
+      let k = touched (accessIn file n i t (admitted.Accepted shape c)) in
+      rw long
+      (choice (eqb (length others) (n + 1)) _ _ _ _
+      (choice (ltb i n) _ _ _ _ (alike-from shape (readRecord shape n c t) e) (refusals k cause.Task e))
+      (refusals k cause.Cells e))
+
+  -- With another list of cells that agrees on the touched cell, a step gives the same answer, record and written word.
+  pub step-local : let k = touched (accessOf file n i t) in getD cells k 0 ≡ getD others k 0 → Alike k (stepTask file cells n i t) (stepTask file others n i t)
+  unfolding accessOf stepTask
+  step-local e = alike-in (admitOf file n) e
+
+-- ---- The other cells
+
+module _ (file cells : List ℕ) (n i : ℕ) (t : Task) where
+  -- An outcome that leaves as many cells, all but cell k as they were.
+  pub record Elsewhere (k : ℕ) (out : Stepped) : Type 0 where
+    pub long : length (out .cells) ≡ length cells
+    pub rest : (j : ℕ) → j ≢ k → getD (out .cells) j 0 ≡ getD cells j 0
+
+  either : {k : ℕ} (b : Bool) (x y : Stepped) → Elsewhere k x → Elsewhere k y → Elsewhere k (cond b x y)
+  either true x y p q = p
+  either false x y p q = q
+
+  refusal : (k : ℕ) (c : Refusal) → Elsewhere k (refuseStep cells t c)
+  refusal k c = record { long = refl; rest = λ j h. refl }
+
+  kept-touch : (shape : Shape) (f : Phase) (a : Access) → Elsewhere (touched a) (touch file shape cells n i t f a)
+  unfolding performOf
+  kept-touch shape f a =
+      let k = touched a in
+      let word = getD cells k 0 in
+      either (cellInForm shape n k word) _ _
+      (either (usedInRange file shape t word f) _ _
+      (record { long = length-set cells k (leftOf word a); rest = λ j h. getD-set-other cells k j (leftOf word a) 0 h })
+      (refusal k cause.Entry))
+      (refusal k cause.Cell)
+
+  kept-from : (shape : Shape) (read : PhaseRead) → Elsewhere (touched (accessFrom file shape i t read)) (stepFrom file shape cells n i t read)
+  kept-from shape (record-phase.Refused c) = refusal 0 c
+  kept-from shape (record-phase.Known f) =
+      let a = planOf file shape i t f in
+      either (eqb (t .phase) 0) _ _ (refusal (touched a) cause.Idle) (kept-touch shape f a)
+
+  kept-in : (x : Admitted) → Elsewhere (touched (accessIn file n i t x)) (stepIn file cells n i t x)
+  kept-in (admitted.Refused c) = refusal 0 c
+  kept-in (admitted.Accepted shape c) =
+      let k = touched (accessIn file n i t (admitted.Accepted shape c)) in
+      either (eqb (length cells) (n + 1)) _ _
+      (either (ltb i n) _ _ (kept-from shape (readRecord shape n c t)) (refusal k cause.Task))
+      (refusal k cause.Cells)
+
+  -- A step changes no cell but the touched one.
+  pub step-elsewhere : Elsewhere (touched (accessOf file n i t)) (stepTask file cells n i t)
+  unfolding accessOf stepTask
+  step-elsewhere = kept-in (admitOf file n)

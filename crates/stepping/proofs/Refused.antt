@@ -1,0 +1,133 @@
+-- A refused call changes nothing.
+use mathlib.Core.Path.{_≡_, ap, _∙_}
+use mathlib.Core.Bool.{Bool, true, false, cond}
+use mathlib.Core.List.{List}
+use Prim.Native.Nat.{ℕ, _+_}
+use native.Mathlib.Omega.{arith}
+use lib.Dec.{eqb, ltb}
+use lib.ListN.{length, getD, set}
+use Rattle.refusal.specs.declared.Refusal.{Refusal}
+use Rattle.refusal.specs.declared.Refusal.the-variants as cause
+use Rattle.table.specs.declared.Shape.{Shape}
+use Rattle.table.specs.Check.{checkOf}
+use Rattle.table.specs.Entries.{operationInRange}
+use Rattle.stepping.specs.declared.record.Task.{Task}
+use Rattle.stepping.specs.declared.phase.Phase.{Phase}
+use Rattle.stepping.specs.declared.phase.PhaseRead.{PhaseRead}
+use Rattle.stepping.specs.declared.phase.PhaseRead.the-variants as record-phase
+use Rattle.stepping.specs.declared.access.Access.{Access}
+use Rattle.stepping.specs.declared.access.Next.{Next}
+use Rattle.stepping.specs.declared.access.Next.the-variants.{Go, Turn, End}
+use Rattle.stepping.specs.declared.access.Answer.the-variants as step
+use Rattle.stepping.specs.declared.call.Admitted.{Admitted}
+use Rattle.stepping.specs.declared.call.Admitted.the-variants as admitted
+use Rattle.stepping.specs.declared.call.StartAnswer.the-variants as start
+use Rattle.stepping.specs.declared.call.BeginAnswer.the-variants as begin
+use Rattle.stepping.specs.declared.call.Begin.{Begin}
+use Rattle.stepping.specs.Record.{idleTask, readRecord}
+use Rattle.stepping.specs.Step.{planOf, touched, foundOf, cellInForm, usedInRange, nextOf, answerOf}
+use Rattle.stepping.specs.Call.{withRow, admitOf, Started, refuseStart, startIn, startOf, refuseBegin, beginFrom, beginIn, beginTask, Stepped, refuseStep, touch, stepFrom, stepIn, stepTask, taskAt, beginOf, stepOf}
+use Rattle.stepping.proofs.Lists.{set-held}
+
+-- What holds of both sides of a choice holds of the choice.
+choice : {A : Type 0} (P : A → Type 0) (b : Bool) (x y : A) → P x → P y → P (cond b x y)
+choice P true x y p q = p
+choice P false x y p q = q
+
+-- ---- Start
+
+module _ (cells : List ℕ) (row : List Task) where
+  record StartKept (out : Started) : Type 0 where
+    same : (reason : Refusal) → out .answer ≡ start.Refused reason → out ≡ refuseStart cells row reason
+
+  start-refused : (c : Refusal) → StartKept (refuseStart cells row c)
+  start-refused c = record { same = λ reason e. let p : c ≡ reason = cc in ap (refuseStart cells row) p }
+
+  start-kept : (x : Admitted) → StartKept (startIn cells row x)
+  start-kept (admitted.Refused c) = start-refused c
+  start-kept (admitted.Accepted shape c) =
+      choice StartKept (eqb (length cells) (length row + 1)) _ _ (record { same = λ reason e. absurd (let z : _≡_ {A = ℕ} 0 1 = cc in omega arith) }) (start-refused cause.Cells)
+
+  pub refused-start : (file : List ℕ) (reason : Refusal) → startOf file cells row .answer ≡ start.Refused reason → startOf file cells row ≡ refuseStart cells row reason
+  unfolding startOf
+  refused-start file reason e = start-kept (withRow (length row) (checkOf file)) .same reason e
+
+-- ---- Begin
+
+module _ (t : Task) where
+  record BeginKept (out : Begin) : Type 0 where
+    same : (reason : Refusal) → out .answer ≡ begin.Refused reason → out ≡ refuseBegin t reason
+
+  begin-refused : (c : Refusal) → BeginKept (refuseBegin t c)
+  begin-refused c = record { same = λ reason e. let p : c ≡ reason = cc in ap (refuseBegin t) p }
+
+  module _ (file : List ℕ) (n i o : ℕ) where
+    begin-from : (shape : Shape) (read : PhaseRead) → BeginKept (beginFrom file shape o t read)
+    begin-from shape (record-phase.Refused c) = begin-refused c
+    begin-from shape (record-phase.Known f) =
+        choice BeginKept (eqb (t .phase) 0) _ _ (record { same = λ reason e. absurd (let z : _≡_ {A = ℕ} 0 1 = cc in omega arith) }) (begin-refused cause.Pending)
+
+    begin-kept : (x : Admitted) → BeginKept (beginIn file n i o t x)
+    begin-kept (admitted.Refused c) = begin-refused c
+    begin-kept (admitted.Accepted shape c) =
+        choice BeginKept (ltb i n) _ _
+        (choice BeginKept (ltb o (shape .operations)) _ _
+        (choice BeginKept (operationInRange file shape o) _ _ (begin-from shape (readRecord shape n c t)) (begin-refused cause.Entry))
+        (begin-refused cause.Operation))
+        (begin-refused cause.Task)
+
+    pub refused-begin : (reason : Refusal) → beginTask file n i o t .answer ≡ begin.Refused reason → beginTask file n i o t ≡ refuseBegin t reason
+    unfolding beginTask
+    refused-begin reason e = begin-kept (admitOf file n) .same reason e
+
+-- ---- Step
+
+-- What an accepted step answers refuses nothing.
+accepts : (t : Task) (x : Next) (reason : Refusal) → answerOf t x ≡ step.Refused reason → ⊥
+accepts t (Go f v h a) reason e = let z : _≡_ {A = ℕ} 0 1 = cc in omega arith
+accepts t Turn reason e = let z : _≡_ {A = ℕ} 0 1 = cc in omega arith
+accepts t (End r) reason e = let z : _≡_ {A = ℕ} 0 1 = cc in omega arith
+
+module _ (file cells : List ℕ) (n i : ℕ) (t : Task) where
+  record StepKept (out : Stepped) : Type 0 where
+    same : (reason : Refusal) → out .answer ≡ step.Refused reason → out ≡ refuseStep cells t reason
+
+  step-refused : (c : Refusal) → StepKept (refuseStep cells t c)
+  step-refused c = record { same = λ reason e. let p : c ≡ reason = cc in ap (refuseStep cells t) p }
+
+  step-touch : (shape : Shape) (f : Phase) (a : Access) → StepKept (touch file shape cells n i t f a)
+  step-touch shape f a =
+      choice StepKept (cellInForm shape n (touched a) (getD cells (touched a) 0)) _ _
+      (choice StepKept (usedInRange file shape t (getD cells (touched a) 0) f) _ _
+      (record { same = λ reason e. absurd (accepts t (nextOf file shape i t f (foundOf (getD cells (touched a) 0) a)) reason e) })
+      (step-refused cause.Entry))
+      (step-refused cause.Cell)
+
+  step-from : (shape : Shape) (read : PhaseRead) → StepKept (stepFrom file shape cells n i t read)
+  step-from shape (record-phase.Refused c) = step-refused c
+  step-from shape (record-phase.Known f) = choice StepKept (eqb (t .phase) 0) _ _ (step-refused cause.Idle) (step-touch shape f (planOf file shape i t f))
+
+  step-kept : (x : Admitted) → StepKept (stepIn file cells n i t x)
+  step-kept (admitted.Refused c) = step-refused c
+  step-kept (admitted.Accepted shape c) =
+      choice StepKept (eqb (length cells) (n + 1)) _ _
+      (choice StepKept (ltb i n) _ _ (step-from shape (readRecord shape n c t)) (step-refused cause.Task))
+      (step-refused cause.Cells)
+
+  pub refused-step : (reason : Refusal) → stepTask file cells n i t .answer ≡ step.Refused reason → stepTask file cells n i t ≡ refuseStep cells t reason
+  unfolding stepTask
+  refused-step reason e = step-kept (admitOf file n) .same reason e
+
+-- ---- Begin and step on a row
+
+module _ (file : List ℕ) (row : List Task) (i : ℕ) where
+  pub refused-begin-row : (o : ℕ) (reason : Refusal) → beginOf file row i o .answer ≡ begin.Refused reason → beginOf file row i o .row ≡ row
+  unfolding beginOf
+  refused-begin-row o reason e =
+      ap (λ (out : Begin). set row i (out .task)) (refused-begin (taskAt row i) file (length row) i o reason e) ∙ set-held row i (idleTask 0)
+
+  pub refused-step-row : (cells : List ℕ) (reason : Refusal) → stepOf file cells row i .answer ≡ step.Refused reason → (stepOf file cells row i .row ≡ row) × (stepOf file cells row i .cells ≡ cells)
+  unfolding stepOf
+  refused-step-row cells reason e =
+      let kept = refused-step file cells (length row) i (taskAt row i) reason e in
+      (ap (λ (out : Stepped). set row i (out .task)) kept ∙ set-held row i (idleTask 0), ap (λ (out : Stepped). out .cells) kept)
