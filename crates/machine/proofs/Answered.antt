@@ -5,12 +5,11 @@ use mathlib.Core.Logic.{_≢_}
 use Prim.Native.Nat.{ℕ, _+_, _*_, _≤_, _<_}
 use native.Mathlib.Decide.{ℕ-discrete}
 use native.Mathlib.Omega.{arith}
-use Rattle.machine.specs.Object.{Object}
-use Rattle.machine.specs.Memory.{HeadValue, Free, Held, Content, Op, Resp, Cell, Memory, update, head-dec, announcement-dec}
+use Rattle.machine.specs.Memory.{HeadValue, Free, Held, Content, Cell, Memory, update, head-dec, announcement-dec}
 use Rattle.machine.specs.Machine.{Phase, Idle, ReadOnly, Announce, Poll, LoadHead, LinkHead, LoadPriority, LoadOwn, Apply, ReloadApply, LoadHelped, LinkHelped, Validate, HandOver, ReloadHandOver, Release, ReloadRelease, ClearHead, ReloadClear, LoadExit, LinkExit, ClearExit, ReleaseExit, Retract, Task, pick}
 use Rattle.machine.specs.Run.{Config}
 use Rattle.machine.specs.Invariant.{inHead, inAnnouncement, headValue, content, OwnSaved}
-use Rattle.machine.specs.Potential.{Row, row, Work, Elsewhere, Linking, Passing, Applying, Approaching, Marking, Finishing, HeadWord, AnnouncementWord, one, answered, waiting, stale, holds, unanswered, but, sum, rankOf, ranks, linking, counts, owes, atHead, headLoad, debts, markPart, announcementPart, answeredPotential}
+use Rattle.machine.specs.Potential.{row, Work, Elsewhere, Linking, Passing, Applying, Approaching, Marking, Finishing, HeadWord, AnnouncementWord, one, stale, holds, unanswered, but, linking, counts, owes, atHead, headLoad, debts, headPart, markPart, announcementAside, lasts, answeredPotential}
 use Rattle.machine.proofs.Update.{clash, update-same, update-other, either-no}
 use Rattle.machine.proofs.Own.{value-found, mark-found}
 use Rattle.machine.proofs.Readings.{one-le, pick-le, pick-mono, lost-word}
@@ -19,8 +18,8 @@ use Rattle.machine.proofs.Ordinary.{Ordinary, Fate, rewritten, kept}
 use Rattle.machine.proofs.Rows.{row-bounds}
 use Rattle.machine.proofs.Sums.{but-change, but-others, but-most}
 use Rattle.machine.proofs.Debts.{owes-most}
-use Rattle.machine.proofs.Course.{lasts, held-own}
-use Rattle.machine.proofs.Waiting.{with, ranks-most, ranks-fall}
+use Rattle.machine.proofs.Course.{held-own}
+use Rattle.machine.proofs.Waiting.{with, Pays, share, ranks-most, ranks-fall}
 
 -- ---- A part that is due
 
@@ -47,29 +46,32 @@ module _ {W : Type 0} {a a′ : Bool} {s s′ : ℕ} {o o′ : W → ℕ} where
       go true g = omega (arith, f w)
       go false g = omega (arith, g refl)
 
--- What may still hold up task p at the head, due or not.
-abbrev pub headDue : ℕ → Config → ℕ → ℕ
-headDue n c p = pick (atHead (c .memory) p) (headLoad n c p) 0
+-- The parts of p's potential at the head and at the announcement of task t, from c to c′.
+abbrev pub HeadDue : ℕ → (c c′ : Config) → ℕ → Type 0
+HeadDue n c c′ p = Due (atHead (c .memory) p) (atHead (c′ .memory) p) (headLoad n c p) (headLoad n c′ p)
+    (λ h. one (stale (c .memory) (HeadWord h))) (λ h. one (stale (c′ .memory) (HeadWord h)))
 
--- No part of p's potential rises from c to c′.
+abbrev pub MarkDue : ℕ → (c c′ : Config) → (p t : ℕ) → Type 0
+MarkDue n c c′ p t = Due (inAnnouncement (c .memory) p t) (inAnnouncement (c′ .memory) p t) (1 + debts n c p t) (1 + debts n c′ p t)
+    (λ a. one (stale (c .memory) (AnnouncementWord t a))) (λ a. one (stale (c′ .memory) (AnnouncementWord t a)))
+
+-- Neither rises.
 pub record Less (n : ℕ) (c c′ : Config) (p : ℕ) : Type 0 where
-  pub head : Due (atHead (c .memory) p) (atHead (c′ .memory) p) (headLoad n c p) (headLoad n c′ p)
-      (λ h. one (stale (c .memory) (HeadWord h))) (λ h. one (stale (c′ .memory) (HeadWord h)))
-  pub marks : (t : ℕ) → Due (inAnnouncement (c .memory) p t) (inAnnouncement (c′ .memory) p t) (1 + debts n c p t) (1 + debts n c′ p t)
-      (λ a. one (stale (c .memory) (AnnouncementWord t a))) (λ a. one (stale (c′ .memory) (AnnouncementWord t a)))
+  pub head : HeadDue n c c′ p
+  pub marks : (t : ℕ) → MarkDue n c c′ p t
 
 module _ (n : ℕ) (c c′ : Config) (p : ℕ) (y : Less n c c′ p) where
   abbrev m : Memory
   m = c .memory
 
-  head-part : headDue n c′ p ≤ headDue n c p
+  head-part : headPart n c′ p ≤ headPart n c p
   head-part = due-part (y .head)
 
   -- The compared head is backed by holding it, or by the own mark in it.
-  word : (x : Cell HeadValue) → (m .head ≡ x → atHead m p ≡ true) → headDue n c′ p + one (stale (c′ .memory) (HeadWord x)) ≤ headDue n c p + one (stale m (HeadWord x))
+  word : (x : Cell HeadValue) → (m .head ≡ x → atHead m p ≡ true) → headPart n c′ p + one (stale (c′ .memory) (HeadWord x)) ≤ headPart n c p + one (stale m (HeadWord x))
   word x f = due-word x (y .head) (omega arith) (one-le (stale (c′ .memory) (HeadWord x))) (λ e. lost-word (head-dec (m .head) x) (λ z. clash (f z) e))
 
-  linked-word : (x : Cell HeadValue) → (m .head ≡ x → inHead m p ≡ true) → headDue n c′ p + one (stale (c′ .memory) (HeadWord x)) ≤ headDue n c p + one (stale m (HeadWord x))
+  linked-word : (x : Cell HeadValue) → (m .head ≡ x → inHead m p ≡ true) → headPart n c′ p + one (stale (c′ .memory) (HeadWord x)) ≤ headPart n c p + one (stale m (HeadWord x))
   linked-word x f = word x (λ z. rw (f z) refl)
 
   mark : (t : ℕ) → markPart n c′ p t ≤ markPart n c p t
@@ -78,7 +80,7 @@ module _ (n : ℕ) (c c′ : Config) (p : ℕ) (y : Less n c c′ p) where
   marked-word : (t : ℕ) (a : Cell Content) → (m .announcement t ≡ a → inAnnouncement m p t ≡ true) → markPart n c′ p t + one (stale (c′ .memory) (AnnouncementWord t a)) ≤ markPart n c p t + one (stale m (AnnouncementWord t a))
   marked-word t a f = due-word a (y .marks t) (omega arith) (one-le (stale (c′ .memory) (AnnouncementWord t a))) (λ e. lost-word (announcement-dec (m .announcement t) a) (λ z. clash (f z) e))
 
-  pub lasts-no-longer : (f : Phase) → OwnSaved m p f → lasts n c′ p (headDue n c′ p) (c′ .memory) (row f) ≤ lasts n c p (headDue n c p) m (row f)
+  pub lasts-no-longer : (f : Phase) → OwnSaved m p f → lasts n (headPart n c′ p) (markPart n c′ p) (c′ .memory) (row f) ≤ lasts n (headPart n c p) (markPart n c p) m (row f)
   lasts-no-longer Idle s = omega (arith, head-part)
   lasts-no-longer ReadOnly s = omega (arith, head-part)
   lasts-no-longer Announce s = omega (arith, head-part)
@@ -115,7 +117,7 @@ module _ (n : ℕ) (c : Config) (p : ℕ) (lt : p < n) where
       let F : ℕ → ℕ = (λ x. owes (c .memory) x t (row (c .task x .phase) .work)) in
       omega (arith, pick-le (inAnnouncement (c .memory) p t) (1 + debts n c p t), but-most n p F F 4 lt (λ x. owes-most (c .memory) x t (row (c .task x .phase) .work)))
 
-  announcement-most : (w : Work) → announcementPart n c p w ≤ 4 * n + 1
+  announcement-most : (w : Work) → announcementAside n (markPart n c p) w ≤ 4 * n + 1
   announcement-most Elsewhere = omega arith
   announcement-most Linking = omega arith
   announcement-most Passing = omega arith
@@ -149,18 +151,16 @@ module _ (n i : ℕ) (lt : i < n) (c : Config) (m′ : Memory) (t′ : Task) (p 
   c′ = with i c m′ t′
 
   -- An ordinary change: task i pays with its rank.
-  pub load-stays : {s : Class} → Ordinary (c .memory) m′ i s → row (t′ .phase) .rank (inHead m′ i) (answered (content m′ i)) + s .cost (inHead (c .memory) i) ≤ rankOf c i
-      → headLoad n c′ p + but p (λ _. s .cost (inHead (c .memory) i)) i ≤ headLoad n c p
-  load-stays {s} o r =
+  pub load-stays : {s : Class} → Ordinary (c .memory) m′ i s → Pays i c m′ t′ s → headLoad n c′ p + share i c s p ≤ headLoad n c p
+  load-stays o r =
       omega (
         arith,
-        ranks-fall n i lt c m′ t′ (s .cost (inHead (c .memory) i)) o r p,
+        ranks-fall n i lt c m′ t′ o r p,
         ap {B = ℕ} (λ (x : Bool). pick x 9 0) (unanswered-stays (c .memory) m′ (headValue (c .memory)) (o .value) (o .holder)),
       )
 
   -- Seen by another task p.
-  pub head-stays : {s : Class} → i ≢ p → Ordinary (c .memory) m′ i s → row (t′ .phase) .rank (inHead m′ i) (answered (content m′ i)) + s .cost (inHead (c .memory) i) ≤ rankOf c i
-      → Due (atHead (c .memory) p) (atHead m′ p) (headLoad n c p) (headLoad n c′ p) (λ h. one (stale (c .memory) (HeadWord h))) (λ h. one (stale m′ (HeadWord h)))
+  pub head-stays : {s : Class} → i ≢ p → Ordinary (c .memory) m′ i s → Pays i c m′ t′ s → HeadDue n c c′ p
   head-stays {s} d o r =
       goes-on (s .cost (inHead (c .memory) i)) (λ t. o .marks p (λ z. d (sym z)) t || holds p (o .value t))
       (rw (either-no (ℕ-discrete i p) 0 (s .cost (inHead (c .memory) i)) d) at (load-stays o r))
@@ -178,7 +178,7 @@ module _ (n i : ℕ) (lt : i < n) (c : Config) (m′ : Memory) (t′ : Task) (p 
   pub marks-stay : {s : Class} (t : ℕ) → i ≢ p → Fate (c .memory) m′ i t s
       → ((x : ℕ) → x ≢ i → (w : Work) → content m′ t ≡ content (c .memory) t → inAnnouncement m′ x t ≡ inAnnouncement (c .memory) x t → owes m′ x t w ≤ owes (c .memory) x t w)
       → owes m′ i t (row (t′ .phase) .work) + one (s .marks i t) ≤ owes (c .memory) i t (row (c .task i .phase) .work) + 4 * one (s .writes i t)
-      → Due (inAnnouncement (c .memory) p t) (inAnnouncement m′ p t) (1 + debts n c p t) (1 + debts n c′ p t) (λ a. one (stale (c .memory) (AnnouncementWord t a))) (λ a. one (stale m′ (AnnouncementWord t a)))
+      → MarkDue n c c′ p t
   marks-stay t d (rewritten w f) g h = over (f p)
   marks-stay {s} t d (kept w v a f) g h =
       goes-on (one (s .marks i t)) (a p (λ z. d (sym z)))

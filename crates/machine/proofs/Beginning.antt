@@ -2,20 +2,20 @@
 use mathlib.Core.Path.{_≡_, refl, sym, _∙_, ap}
 use mathlib.Core.Bool.{Bool, true, false}
 use mathlib.Core.Logic.{_≢_}
-use Prim.Native.Nat.{ℕ, _+_, _*_, _≤_, _<_}
+use Prim.Native.Nat.{ℕ, _≤_, _<_}
 use native.Mathlib.Omega.{arith}
 use Rattle.machine.specs.Object.{Object}
-use Rattle.machine.specs.Memory.{Content, Empty, Op, Resp, Memory, update}
-use Rattle.machine.specs.Machine.{Phase, Idle, Task}
+use Rattle.machine.specs.Memory.{Content, Empty, Op, Resp, Memory}
+use Rattle.machine.specs.Machine.{Idle, Task}
 use Rattle.machine.specs.Kind.{kind}
 use Rattle.machine.specs.Run.{Config, firstPhase, begun}
-use Rattle.machine.specs.Invariant.{inHead, inAnnouncement, content, OwnSaved, Safe}
-use Rattle.machine.specs.Potential.{Row, row, answered, rankOf, distOf, dist, owes, bound, waitingPotential, answeredPotential, announcedPotential, potentialBy, potential}
+use Rattle.machine.specs.Invariant.{inHead, content, Safe}
+use Rattle.machine.specs.Potential.{Row, row, answered, dist, owes, bound, waitingPotential, announcedPotential, potentialBy, potential}
 use Rattle.machine.proofs.Update.{update-same, update-other}
 use Rattle.machine.proofs.Effect.{Unchanged}
 use Rattle.machine.proofs.Class.{class}
 use Rattle.machine.proofs.Ordinary.{unchanged, untouched}
-use Rattle.machine.proofs.Waiting.{dists-fall, waiting-stays, place-other}
+use Rattle.machine.proofs.Waiting.{Pays, dists-fall, waiting-stays, place-other}
 use Rattle.machine.proofs.Answered.{Less, lasts-no-longer, head-stays, marks-stay}
 use Rattle.machine.proofs.Falling.{kind-stays}
 
@@ -40,7 +40,7 @@ module _ (b : Object) (n j o : ℕ) (lt : j < n) (c : Config) (safe : Safe c) (i
   same : row (t′ .phase) ≡ row (c .task j .phase)
   same = first-row (b .changing o) ∙ sym (ap row idle)
 
-  rank : row (t′ .phase) .rank (inHead m j) (answered (content m j)) + 0 ≤ rankOf c j
+  rank : Pays j c m t′ (class Unchanged)
   rank = omega (arith, ap (λ (r : Row). r .rank (inHead m j) (answered (content m j))) same)
 
   module _ (p : ℕ) (d : j ≢ p) where

@@ -1,5 +1,4 @@
 -- The effects by what they mean to the potential: seven ordinary ones, and three stage changes (apply, hand over, clear).
-use mathlib.Core.Path.{_≡_}
 use mathlib.Core.Bool.{Bool, true, false}
 use Prim.Native.Nat.{ℕ}
 use native.Mathlib.Decide.{ℕ-discrete}

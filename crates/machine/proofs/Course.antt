@@ -1,19 +1,18 @@
 -- A step as its own task sees it: the place in the loop, and once there is a response all that may still hold the task up.
-use mathlib.Core.Path.{_≡_, refl, sym, _∙_, ap}
+use mathlib.Core.Path.{_≡_, refl, _∙_, ap}
 use mathlib.Core.Bool.{Bool, true, false, _&&_, _||_, not}
 use Prim.Native.Nat.{ℕ, _+_, _*_, _≤_}
 use native.Mathlib.Decide.{ℕ-discrete}
 use native.Mathlib.Omega.{arith}
-use Rattle.machine.specs.Marks.{has, add, has-add}
+use Rattle.machine.specs.Marks.{has-add}
 use Rattle.machine.specs.Object.{Object}
-use Rattle.machine.specs.Memory.{HeadValue, Held, Content, Op, Resp, Cell, Memory, head-dec, announcement-dec}
+use Rattle.machine.specs.Memory.{HeadValue, Held, Content, Cell, Memory, head-dec, announcement-dec}
 use Rattle.machine.specs.Machine.{Phase, Next, phaseOf, decided, pick, linked}
 use Rattle.machine.specs.Kind.{Kind, Off, Reading, Opening, Looping, Exiting, Retracting, kind}
-use Rattle.machine.specs.Run.{Config}
-use Rattle.machine.specs.Invariant.{inHead, inAnnouncement, headValue, content, IsResp, HeldBy, TaskSafe}
-use Rattle.machine.specs.Potential.{Row, row, HeadWord, AnnouncementWord, one, stale, holds, placeOf, atHead, linking, counts, markPart, announcementPart}
+use Rattle.machine.specs.Invariant.{inHead, headValue, content, IsResp, HeldBy, TaskSafe}
+use Rattle.machine.specs.Potential.{Row, row, HeadWord, AnnouncementWord, one, stale, holds, placeOf, atHead, lasts}
 use Rattle.machine.proofs.Update.{update-same}
-use Rattle.machine.proofs.Effect.{Effect, Unchanged, Linked, Retracted, LinkedAt, Announced, effect}
+use Rattle.machine.proofs.Effect.{Effect, Unchanged, Retracted, LinkedAt, Announced, effect}
 use Rattle.machine.proofs.Branch.{Branch, stay-idle, read-only, announce, poll-response, poll-waits, load-head, link-free, link-held, link-fails, priority-waits, priority-rests, own-waits, own-response, own-empty, apply, apply-fails, reload-apply, reload-apply-lost, load-helped, link-helped, link-rested, link-helped-fails, validate, validate-fails, hand-over, hand-over-fails, reload-hand-over, reload-hand-over-lost, release, release-fails, reload-release, reload-release-lost, clear, clear-fails, reload-clear, reload-clear-lost, exit-clear, exit-release, exit-link, exit-retract, link-exit, link-exit-fails, clear-exit, clear-exit-fails, release-exit, release-exit-fails, retract}
 use Rattle.machine.proofs.Own.{value-found, not-empty}
 use Rattle.machine.proofs.Readings.{one-le, decided-yes, found-word, lost-word}
@@ -28,18 +27,15 @@ Busy Looping = Unit {0}
 Busy (Exiting v) = Unit {0}
 Busy (Retracting v) = Unit {0}
 
--- The potential of an operation with its response, over the part h of the head and the announcement parts of c.
-abbrev pub lasts : (n : ℕ) → Config → (i h : ℕ) → Memory → Row → ℕ
-lasts n c i h m r = 5 * (h + pick (linking (r .work)) (9 * n + 1) 0 + announcementPart n c i (r .work) + one (counts (r .work) && stale m (r .compared))) + r .position true
-
 -- A step in the loop: its task goes on unless it changes the stage, and in any case once it has its response; its own
--- announcement is rewritten only by a stage change. h, h′: the part of the head before and after.
-abbrev pub Falls : (n i : ℕ) (m m′ : Memory) (c c′ : Config) (h h′ : ℕ) (f f′ : Phase) → Effect → Type 0
-Falls n i m m′ c c′ h h′ f f′ e = record {
+-- announcement is rewritten only by a stage change. h and g are the parts of the head and of the announcements before
+-- the step, h′ and g′ after it.
+abbrev pub Falls : (n i : ℕ) (m m′ : Memory) (h h′ : ℕ) (g g′ : ℕ → ℕ) (f f′ : Phase) → Effect → Type 0
+Falls n i m m′ h h′ g g′ f f′ e = record {
   before : Busy (kind f);
   after : Busy (kind f′);
   place : placeOf m′ i (row f′) + 1 ≤ placeOf m i (row f) + 37 * class e .stage;
-  last : IsResp (content m i) → lasts n c′ i h′ m′ (row f′) + 1 ≤ lasts n c i h m (row f);
+  last : IsResp (content m i) → lasts n h′ g′ m′ (row f′) + 1 ≤ lasts n h g m (row f);
   writes : one (class e .writes i i) ≤ class e .stage;
 }
 
@@ -59,9 +55,9 @@ held-own m {i} e = go (inHead m i)
     go true = refl
     go false = rw e (decided-yes (ℕ-discrete i i) refl)
 
-module _ (b : Object) (m : Memory) (i k o n : ℕ) (c c′ : Config) (h h′ : ℕ) (head-most : h′ ≤ 9 * n + 1) (marks-most : (j : ℕ) → markPart n c′ i j ≤ 4 * n) where
+module _ (b : Object) (m : Memory) (i k o n : ℕ) (h h′ : ℕ) (g g′ : ℕ → ℕ) (head-most : h′ ≤ 9 * n + 1) (marks-most : (j : ℕ) → g′ j ≤ 4 * n) where
   abbrev pub Courses : Phase → Effect → Next → Type 0
-  Courses f e y = Course (row f) (Falls n i m (effect i e m) c c′ h h′ f (phaseOf y) e) (kind f) e (kind (phaseOf y))
+  Courses f e y = Course (row f) (Falls n i m (effect i e m) h h′ g g′ f (phaseOf y) e) (kind f) e (kind (phaseOf y))
 
   here : one (stale m (HeadWord (m .head))) ≡ 0
   here = found-word (head-dec (m .head) (m .head)) refl
@@ -78,51 +74,51 @@ module _ (b : Object) (m : Memory) (i k o n : ℕ) (c c′ : Config) (h h′ : �
 
   pub course : {f : Phase} {e : Effect} {y : Next} → Branch b m i k o f e y → TaskSafe m i o f
       → h′ ≤ h + pick (class e .links && not (atHead m i)) (9 * n + 1) 0
-      → (e ≡ Unchanged → (j : ℕ) → markPart n c′ i j ≤ markPart n c i j) → Courses f e y
-  course stay-idle s l g = rests
-  course read-only s l g = reads
-  course announce s l g = opens
-  course (poll-response e) s l g = works (omega arith)
-  course (poll-waits e) s l g = works (record { before = tt; after = tt; place = omega arith; last = λ r. absurd (e r); writes = omega arith })
-  course load-head s l g = works (omega (arith, here))
-  course (link-free {h = x} e f) s l g = works (rw (has-add i (m .head .marks)) (omega (arith, found-word (head-dec (linked i (m .head)) (linked i x)) (ap (linked i) e))))
-  course (link-held e f) s l g = works (rw (has-add i (m .head .marks)) (omega arith))
-  course (link-fails {h = x} e) s l g = works (omega (arith, lost-word (head-dec (m .head) x) e))
-  course (priority-waits e) s l g = works (omega arith)
-  course (priority-rests e) s l g = works (omega arith)
-  course (own-waits e) s l g = works (omega arith)
-  course (own-response {h = x} e) s l g = works (omega arith)
-  course (own-empty e) s l g = absurd (not-empty o (s .own) e)
-  course (apply e) s l g = works (omega arith)
-  course (apply-fails {h = x} e) s l g = works (omega (arith, lost-word (head-dec (m .head) x) e))
-  course (reload-apply e) s l g = works (omega (arith, here))
-  course (reload-apply-lost e) s l g = works (rw e (omega arith))
-  course (load-helped {j = j}) s l g = works (omega (arith, there j))
-  course (link-helped {j = j} {a = a} e f) s l g = works (omega (arith, marks-most j, linked-there j a e))
-  course (link-rested {j = j} {a = a} e f) s l g = works (omega (arith, marks-most j, linked-there j a e))
-  course (link-helped-fails {j = j} {a = a} e) s l g = works (omega (arith, lost-word (announcement-dec (m .announcement j) a) e))
-  course (validate {j = j} e) s l g = works (omega (arith, g refl j))
-  course (validate-fails {j = j} e) s l g = works (omega (arith, g refl j))
-  course (hand-over {h = x} {j = j} e) s l g = works (omega (arith, one-le (stale m (HeadWord x)), one-le (decided (ℕ-discrete j i))))
-  course (hand-over-fails {j = j} {a = a} e) s l g = works (omega (arith, g refl j, lost-word (announcement-dec (m .announcement j) a) e))
-  course (reload-hand-over {j = j} e) s l g = works (omega (arith, g refl j, there j))
-  course (reload-hand-over-lost {h = x} e) s l g = works (omega (arith, one-le (stale m (HeadWord x))))
-  course (release {h = x} e) s l g = works (omega (arith, one-le (stale m (HeadWord x))))
-  course (release-fails {j = j} {a = a} e) s l g = works (omega (arith, g refl j, lost-word (announcement-dec (m .announcement j) a) e))
-  course (reload-release {j = j} e) s l g = works (omega (arith, g refl j, there j))
-  course (reload-release-lost {h = x} e) s l g = works (omega (arith, one-le (stale m (HeadWord x))))
-  course (clear e) s l g = works (omega arith)
-  course (clear-fails {h = x} e) s l g = works (omega (arith, lost-word (head-dec (m .head) x) e))
-  course (reload-clear e) s l g = works (omega (arith, here))
-  course (reload-clear-lost e) s l g = works (rw e (omega arith))
-  course (exit-clear e f) s l g = works (omega (arith, here))
-  course (exit-release e f) s l g = works (omega (arith, here))
-  course (exit-link e f) s l g = works (omega (arith, here))
-  course (exit-retract e f) s l g = works (omega arith)
-  course (link-exit {h = x} e) s l g = works (omega (arith, kept-exit l e (s .saved .1), found-word (head-dec (linked i (m .head)) (linked i x)) (ap (linked i) e)))
-  course (link-exit-fails {h = x} e) s l g = works (omega (arith, lost-word (head-dec (m .head) x) e))
-  course (clear-exit e) s l g = works (omega arith)
-  course (clear-exit-fails {h = x} e) s l g = works (omega (arith, lost-word (head-dec (m .head) x) e))
-  course (release-exit e) s l g = works (omega arith)
-  course (release-exit-fails {h = x} e) s l g = works (omega (arith, lost-word (head-dec (m .head) x) e))
-  course retract s l g = ends (omega arith)
+      → (e ≡ Unchanged → (j : ℕ) → g′ j ≤ g j) → Courses f e y
+  course stay-idle s l u = rests
+  course read-only s l u = reads
+  course announce s l u = opens
+  course (poll-response e) s l u = works (omega arith)
+  course (poll-waits e) s l u = works (record { before = tt; after = tt; place = omega arith; last = λ r. absurd (e r); writes = omega arith })
+  course load-head s l u = works (omega (arith, here))
+  course (link-free {h = x} e f) s l u = works (rw (has-add i (m .head .marks)) (omega (arith, found-word (head-dec (linked i (m .head)) (linked i x)) (ap (linked i) e))))
+  course (link-held e f) s l u = works (rw (has-add i (m .head .marks)) (omega arith))
+  course (link-fails {h = x} e) s l u = works (omega (arith, lost-word (head-dec (m .head) x) e))
+  course (priority-waits e) s l u = works (omega arith)
+  course (priority-rests e) s l u = works (omega arith)
+  course (own-waits e) s l u = works (omega arith)
+  course (own-response {h = x} e) s l u = works (omega arith)
+  course (own-empty e) s l u = absurd (not-empty o (s .own) e)
+  course (apply e) s l u = works (omega arith)
+  course (apply-fails {h = x} e) s l u = works (omega (arith, lost-word (head-dec (m .head) x) e))
+  course (reload-apply e) s l u = works (omega (arith, here))
+  course (reload-apply-lost e) s l u = works (rw e (omega arith))
+  course (load-helped {j = j}) s l u = works (omega (arith, there j))
+  course (link-helped {j = j} {a = a} e f) s l u = works (omega (arith, marks-most j, linked-there j a e))
+  course (link-rested {j = j} {a = a} e f) s l u = works (omega (arith, marks-most j, linked-there j a e))
+  course (link-helped-fails {j = j} {a = a} e) s l u = works (omega (arith, lost-word (announcement-dec (m .announcement j) a) e))
+  course (validate {j = j} e) s l u = works (omega (arith, u refl j))
+  course (validate-fails {j = j} e) s l u = works (omega (arith, u refl j))
+  course (hand-over {h = x} {j = j} e) s l u = works (omega (arith, one-le (stale m (HeadWord x)), one-le (decided (ℕ-discrete j i))))
+  course (hand-over-fails {j = j} {a = a} e) s l u = works (omega (arith, u refl j, lost-word (announcement-dec (m .announcement j) a) e))
+  course (reload-hand-over {j = j} e) s l u = works (omega (arith, u refl j, there j))
+  course (reload-hand-over-lost {h = x} e) s l u = works (omega (arith, one-le (stale m (HeadWord x))))
+  course (release {h = x} e) s l u = works (omega (arith, one-le (stale m (HeadWord x))))
+  course (release-fails {j = j} {a = a} e) s l u = works (omega (arith, u refl j, lost-word (announcement-dec (m .announcement j) a) e))
+  course (reload-release {j = j} e) s l u = works (omega (arith, u refl j, there j))
+  course (reload-release-lost {h = x} e) s l u = works (omega (arith, one-le (stale m (HeadWord x))))
+  course (clear e) s l u = works (omega arith)
+  course (clear-fails {h = x} e) s l u = works (omega (arith, lost-word (head-dec (m .head) x) e))
+  course (reload-clear e) s l u = works (omega (arith, here))
+  course (reload-clear-lost e) s l u = works (rw e (omega arith))
+  course (exit-clear e f) s l u = works (omega (arith, here))
+  course (exit-release e f) s l u = works (omega (arith, here))
+  course (exit-link e f) s l u = works (omega (arith, here))
+  course (exit-retract e f) s l u = works (omega arith)
+  course (link-exit {h = x} e) s l u = works (omega (arith, kept-exit l e (s .saved .1), found-word (head-dec (linked i (m .head)) (linked i x)) (ap (linked i) e)))
+  course (link-exit-fails {h = x} e) s l u = works (omega (arith, lost-word (head-dec (m .head) x) e))
+  course (clear-exit e) s l u = works (omega arith)
+  course (clear-exit-fails {h = x} e) s l u = works (omega (arith, lost-word (head-dec (m .head) x) e))
+  course (release-exit e) s l u = works (omega arith)
+  course (release-exit-fails {h = x} e) s l u = works (omega (arith, lost-word (head-dec (m .head) x) e))
+  course retract s l u = ends (omega arith)

@@ -1,22 +1,21 @@
 -- What a task can still do to the announcement of task t: the changes of this number, by what changes in the cells.
-use mathlib.Core.Path.{_≡_, refl, sym, _∙_, ap}
+use mathlib.Core.Path.{_≡_, refl, ap}
 use mathlib.Core.Bool.{Bool, true, false, _&&_, _||_}
 use mathlib.Core.Logic.{_≢_}
 use Prim.Native.Nat.{ℕ, _+_, _*_, _≤_}
 use native.Mathlib.Decide.{ℕ-discrete}
 use native.Mathlib.Omega.{arith}
-use Rattle.machine.specs.Marks.{has, add, remove, has-none, has-remove}
+use Rattle.machine.specs.Marks.{has}
 use Rattle.machine.specs.Object.{Object}
-use Rattle.machine.specs.Memory.{HeadValue, Free, Held, Content, Empty, Op, Resp, Cell, Memory}
+use Rattle.machine.specs.Memory.{Content, Cell, Memory}
 use Rattle.machine.specs.Machine.{decided, pick}
-use Rattle.machine.specs.Invariant.{inHead, inAnnouncement, headValue, content, IsResp}
-use Rattle.machine.specs.Potential.{Work, Elsewhere, Approaching, Marking, Finishing, one, waiting, holds, approaches, worksFor, owed, owes}
-use Rattle.machine.proofs.Update.{update-same, update-other}
-use Rattle.machine.proofs.Effect.{Effect, Cleared, Applied, LinkedAt, ReleasedAt, effect, withAnnouncement, Allowed}
+use Rattle.machine.specs.Invariant.{inHead, inAnnouncement, headValue, content}
+use Rattle.machine.specs.Potential.{Work, one, waiting, holds, approaches, worksFor, owed, owes}
+use Rattle.machine.proofs.Update.{update-other}
+use Rattle.machine.proofs.Effect.{Effect, Cleared, Applied, effect, withAnnouncement, Allowed}
 use Rattle.machine.proofs.Own.{value-found}
 use Rattle.machine.proofs.Readings.{one-le, pick-le, waiting-not, resp-not-op}
-use Rattle.machine.proofs.Class.{class}
-use Rattle.machine.proofs.Ordinary.{Ordinary, Sort, ordinary, clears, applies, hands-over, Fate, rewritten, kept, remarked}
+use Rattle.machine.proofs.Ordinary.{Sort, ordinary, clears, applies, hands-over}
 
 either-le : (x : Bool) (a : ℕ) → pick x 0 a ≤ a
 either-le true a = omega arith

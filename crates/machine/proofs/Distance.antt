@@ -1,12 +1,12 @@
 -- The distance from a task's priority to task p: it stays or falls while p waits, and falls when somebody else is applied.
-use mathlib.Core.Path.{_≡_, refl, sym, _∙_}
-use mathlib.Core.Bool.{Bool, true, false, not}
+use mathlib.Core.Path.{_≡_}
+use mathlib.Core.Bool.{Bool, not}
 use mathlib.Core.Logic.{_≢_}
 use Prim.Native.Nat.{ℕ, suc, _+_, _-_, _%_, _≤_, _<_, zero-le}
 use native.Mathlib.Decide.{ℕ-discrete, decLe}
 use native.Mathlib.Nat.{mod-eq-of-lt, mod-self}
 use native.Mathlib.Omega.{arith}
-use Rattle.machine.specs.Memory.{Content, Memory, either}
+use Rattle.machine.specs.Memory.{Memory, either}
 use Rattle.machine.specs.Machine.{decided, pick}
 use Rattle.machine.specs.Invariant.{content, IsOp}
 use Rattle.machine.specs.Potential.{Work, Elsewhere, Applying, waiting, skips, gap, dist}

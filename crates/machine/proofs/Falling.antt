@@ -6,30 +6,30 @@ use Prim.Native.Nat.{ℕ, _+_, _*_, _≤_, _<_}
 use native.Mathlib.Decide.{ℕ-discrete}
 use native.Mathlib.Omega.{arith}
 use Rattle.machine.specs.Object.{Object}
-use Rattle.machine.specs.Memory.{HeadValue, Held, Content, Empty, Op, Resp, Cell, Memory, either, update}
-use Rattle.machine.specs.Machine.{Phase, Task, Next, phaseOf, turns, advance, decided, pick}
+use Rattle.machine.specs.Memory.{Content, Empty, Op, Resp, Memory}
+use Rattle.machine.specs.Machine.{Task, Next, phaseOf, turns, advance, pick}
 use Rattle.machine.specs.Kind.{Kind, Off, Reading, Opening, Looping, Exiting, Retracting, kind}
 use Rattle.machine.specs.Run.{Config}
-use Rattle.machine.specs.Invariant.{inHead, inAnnouncement, headValue, content, IsResp, Announces, OwnContent, TaskSafe, Safe}
-use Rattle.machine.specs.Potential.{row, Work, HeadWord, AnnouncementWord, one, answered, stale, holds, but, rankOf, dist, dists, distOf, stages, stageWeight, reserve, placeOf, waitingPotential, owes, atHead, headLoad, debts, markPart, answeredPotential, bound, announcedPotential, potentialBy, potential}
-use Rattle.machine.proofs.Update.{clash, update-same, update-other, either-yes}
-use Rattle.machine.proofs.Effect.{Effect, Unchanged, Cleared, Retracted, Applied, HandedOver, Announced, effect, Allowed}
+use Rattle.machine.specs.Invariant.{inHead, headValue, content, IsResp, OwnContent, Safe}
+use Rattle.machine.specs.Potential.{row, one, answered, holds, dists, placeOf, waitingPotential, atHead, headLoad, headPart, markPart, lasts, answeredPotential, announcedPotential, potentialBy, potential}
+use Rattle.machine.proofs.Update.{clash, update-same, update-other}
+use Rattle.machine.proofs.Effect.{Effect, Cleared, Applied, HandedOver, Announced, effect, Allowed}
 use Rattle.machine.proofs.Moved.{moved, Steps}
 use Rattle.machine.proofs.Rely.{relies}
 use Rattle.machine.proofs.Own.{allowed, value-found, is-response, not-empty}
-use Rattle.machine.proofs.Readings.{pick-le, pick-mono, one-le}
+use Rattle.machine.proofs.Readings.{pick-le, one-le}
 use Rattle.machine.proofs.Class.{class}
 use Rattle.machine.proofs.Ordinary.{Ordinary, Sort, ordinary, clears, applies, hands-over, sort, elsewhere, Fate, rewritten, kept, fate}
 use Rattle.machine.proofs.Rows.{extras}
 use Rattle.machine.proofs.Debts.{other-owes}
 use Rattle.machine.proofs.Seen.{Seen, seen}
-use Rattle.machine.proofs.Course.{Busy, Falls, lasts, Course, rests, reads, opens, works, ends, course}
-use Rattle.machine.proofs.Waiting.{dists-fall, stages-clear, stages-apply, stages-hand-over, waiting-stays, place-other, waiting-falls, waiting-most}
-use Rattle.machine.proofs.Answered.{Due, due-part, headDue, Less, lasts-no-longer, head-most, mark-most, answered-most, load-stays, head-stays, marks-stay, mark-same}
-use Rattle.machine.proofs.Stage.{clear-keeps-turn, hand-over-keeps-turn, apply-turns, HeadDue, clear-head, apply-head, hand-over-head}
+use Rattle.machine.proofs.Course.{Busy, Falls, Course, rests, reads, opens, works, ends, course}
+use Rattle.machine.proofs.Waiting.{Pays, share, dists-fall, stages-clear, stages-apply, stages-hand-over, waiting-stays, place-other, waiting-falls, waiting-most}
+use Rattle.machine.proofs.Answered.{due-part, HeadDue, Less, lasts-no-longer, head-most, mark-most, answered-most, load-stays, head-stays, marks-stay, mark-same}
+use Rattle.machine.proofs.Stage.{clear-keeps-turn, hand-over-keeps-turn, apply-turns, clear-head, apply-head, hand-over-head}
 
 false-of : (x : Bool) → one x ≤ 0 → x ≡ false
-false-of true h = let z : _≡_ {A = ℕ} 0 1 = omega arith in absurd (omega arith)
+false-of true h = absurd (omega arith)
 false-of false h = refl
 
 or-one : (x x′ y : Bool) (k : ℕ) → one x′ ≤ one x + k → one (x′ || y) ≤ one (x || y) + k
@@ -47,6 +47,7 @@ own-due a false l s s′ most x y z = omega arith
 
 -- ---- By the kind of the phase
 
+-- A busy task has announced.
 busy-announced : (k : Kind) {a : Content} (o : ℕ) → Busy k → OwnContent a o k → a ≡ Empty → ⊥
 busy-announced Off o u y e = u
 busy-announced Reading o u y e = u
@@ -87,7 +88,7 @@ module _ (b : Object) (n i : ℕ) (lt : i < n) (c : Config) (safe : Safe c) (bel
 
   -- The rank pays for an ordinary effect.
   paid : {e : Effect} {y : Next} → Steps b i c e y → Ordinary m (effect i e m) i (class e)
-      → row (phaseOf y) .rank (inHead (effect i e m) i) (answered (content (effect i e m) i)) + class e .cost (inHead m i) ≤ rankOf c i
+      → Pays i c (effect i e m) (advance n (c .task i) y) (class e)
   paid v o = omega (arith, sees v 0 0 .rank, o .stage)
 
   -- Unless the priority moves on, nobody comes further away from a waiting task.
@@ -99,7 +100,7 @@ module _ (b : Object) (n i : ℕ) (lt : i < n) (c : Config) (safe : Safe c) (bel
   module _ (p : ℕ) (below-p : p < n) {x : ℕ} (f : content m p ≡ Op x) (k : ℕ) (one-step : k ≤ 1) where
     -- It goes on waiting, with k more of its place behind it, or the stage changes, or it has its response.
     waits : {e : Effect} {y : Next} → Steps b i c e y → Sort b m i e
-        → (Ordinary m (effect i e m) i (class e) → (content (effect i e m) p ≡ content m p) × (placeOf (effect i e m) p (row (after e y .task p .phase)) + k ≤ placeOf m p (row (c .task p .phase)) + 5 * but p (λ _. class e .cost (inHead m i)) i))
+        → (Ordinary m (effect i e m) i (class e) → (content (effect i e m) p ≡ content m p) × (placeOf (effect i e m) p (row (after e y .task p .phase)) + k ≤ placeOf m p (row (c .task p .phase)) + 5 * share i c (class e) p))
         → announcedPotential n (after e y) p (content (effect i e m) p) + k ≤ waitingPotential n c p
     waits {e} {y} v (ordinary o) g =
         rw (g o .0 ∙ f) (waiting-stays n i lt c (effect i e m) (advance n (c .task i) y) p k o (paid v o) (nearer v p f (false-of (turns y) (omega (arith, sees v 0 0 .turn, o .stage)))) (g o .1))
@@ -113,7 +114,7 @@ module _ (b : Object) (n i : ℕ) (lt : i < n) (c : Config) (safe : Safe c) (bel
         rw f (omega (
           arith,
           waiting-falls n i lt c (effect i (Applied q j r) m) (advance n (c .task i) y) p below-p
-              (stages-apply b m i p x _ _ f q j r a (λ d. dists-fall n i lt c (effect i (Applied q j r) m) (advance n (c .task i) y) p 1 (apply-turns n p v below-p below d))),
+              (stages-apply b m i p x _ _ f q j r a (λ d. dists-fall n i lt c (effect i (Applied q j r) m) (advance n (c .task i) y) p 1 (apply-turns n p (c .task i) v below-p below d))),
         ))
     waits {y = y} v (hands-over {j = j} {r = r} a) g = go (ℕ-discrete j p)
       where
@@ -131,7 +132,7 @@ module _ (b : Object) (n i : ℕ) (lt : i < n) (c : Config) (safe : Safe c) (bel
   -- ---- Another task p with its response
 
   module _ (p : ℕ) (d : i ≢ p) (r : IsResp (content m p)) where
-    less-head : {e : Effect} {y : Next} → Steps b i c e y → Sort b m i e → HeadDue b n i c p e y
+    less-head : {e : Effect} {y : Next} → Steps b i c e y → Sort b m i e → HeadDue n c (after e y) p
     less-head {e} {y} v (ordinary o) = head-stays n i lt c (effect i e m) (advance n (c .task i) y) p d o (paid v o)
     less-head {y = y} v (clears a) = clear-head b n i c p y
     less-head {y = y} v (applies a) = apply-head b n i c p y r a
@@ -165,6 +166,7 @@ module _ (b : Object) (n i : ℕ) (lt : i < n) (c : Config) (safe : Safe c) (bel
 
   -- ---- The task that steps
 
+  -- Its announcement keeps its content in an ordinary step, and its response in any.
   own-stays : (e : Effect) → Ordinary m (effect i e m) i (class e) → one (class e .writes i i) ≤ class e .stage → content (effect i e m) i ≡ content m i
   own-stays e o h = go (fate m i i e)
     where
@@ -178,7 +180,8 @@ module _ (b : Object) (n i : ℕ) (lt : i < n) (c : Config) (safe : Safe c) (bel
   own-answered (applies a) h f = f
   own-answered {r = r} (hands-over {j = j} a) h f = elsewhere m i j i _ (λ z. (let u : content m i ≡ Op (a .1) = rw (← z) (a .3) in let w : _≡_ {A = ℕ} 0 1 = cc in omega arith)) ∙ f
 
-  own-head : {e : Effect} {y : Next} → Steps b i c e y → Sort b m i e → IsResp (content m i) → headDue n (after e y) i ≤ headDue n c i + pick (class e .links && not (atHead m i)) (9 * n + 1) 0
+  -- Its part of the head becomes due by a link alone.
+  own-head : {e : Effect} {y : Next} → Steps b i c e y → Sort b m i e → IsResp (content m i) → headPart n (after e y) i ≤ headPart n c i + pick (class e .links && not (atHead m i)) (9 * n + 1) 0
   own-head {e} {y} v (ordinary o) r =
       own-due (atHead m i) (atHead (effect i e m) i) (class e .links) _ _ (9 * n + 1)
       (omega (arith, load-stays n i lt c (effect i e m) (advance n (c .task i) y) i o (paid v o))) (head-most n (after e y) i lt)
@@ -188,11 +191,12 @@ module _ (b : Object) (n i : ℕ) (lt : i < n) (c : Config) (safe : Safe c) (bel
   own-head v (hands-over a) r = omega (arith, due-part (hand-over-head b n i c i v a))
 
   own-course : {e : Effect} {y : Next} (v : Steps b i c e y) (h h′ : ℕ) → h′ ≤ 9 * n + 1 → h′ ≤ h + pick (class e .links && not (atHead m i)) (9 * n + 1) 0
-      → Course (row (c .task i .phase)) (Falls n i m (effect i e m) c (after e y) h h′ (c .task i .phase) (phaseOf y) e) (kind (c .task i .phase)) e (kind (phaseOf y))
+      → Course (row (c .task i .phase)) (Falls n i m (effect i e m) h h′ (markPart n c i) (markPart n (after e y) i) (c .task i .phase) (phaseOf y) e) (kind (c .task i .phase)) e (kind (phaseOf y))
   own-course {e} {y} v h h′ most l =
-      course b m i (c .task i .priority) (c .task i .operation) n c (after e y) h h′ most (mark-most n (after e y) i lt) v (safe .each i) l
+      course b m i (c .task i .priority) (c .task i .operation) n h h′ (markPart n c i) (markPart n (after e y) i) most (mark-most n (after e y) i lt) v (safe .each i) l
       (λ z. mark-same n i lt c (effect i e m) (advance n (c .task i) y) i (ap (λ (e : Effect). effect i e m) z))
 
+  -- By the course of its operation.
   own-by : {k k′ : Kind} {e : Effect} {y : Next} {F : Type 0} → Steps b i c e y → Course (row (c .task i .phase)) F k e k′ → (k ≡ Off → ⊥)
       → (F → Busy k × Busy k′ × (announcedPotential n (after e y) i (content (effect i e m) i) + 1 ≤ announcedPotential n c i (content m i)))
       → potentialBy n (after e y) i k′ (content (effect i e m) i) + 1 ≤ potentialBy n c i k (content m i)
@@ -223,7 +227,7 @@ module _ (b : Object) (n i : ℕ) (lt : i < n) (c : Config) (safe : Safe c) (bel
             omega (arith, ap (announcedPotential n c i) f, waits i lt f 1 (omega arith) v (sort b m i e (may v)) (λ o. (own-stays e o (F .writes), rw mine (omega (arith, F .place, o .stage))))),
           ))
       go (Resp r) f =
-          own-by v (own-course v (headDue n c i) (headDue n (after e y) i)
+          own-by v (own-course v (headPart n c i) (headPart n (after e y) i)
           (omega (arith, pick-le (atHead (effect i e m) i) (headLoad n (after e y) i), head-most n (after e y) i lt)) (own-head v (sort b m i e (may v)) (is-response f))) z
           (λ F. (
             F .before,
@@ -232,7 +236,7 @@ module _ (b : Object) (n i : ℕ) (lt : i < n) (c : Config) (safe : Safe c) (bel
               arith,
               ap (announcedPotential n c i) f,
               ap (announcedPotential n (after e y) i) (own-answered (sort b m i e (may v)) (F .writes) f),
-              ap (λ (t : Task). lasts n (after e y) i (headDue n (after e y) i) (effect i e m) (row (t .phase))) mine,
+              ap (λ (t : Task). lasts n (headPart n (after e y) i) (markPart n (after e y) i) (effect i e m) (row (t .phase))) mine,
               F .last (is-response f),
             ),
           ))

@@ -1,13 +1,13 @@
 -- What a step leaves to everybody else: an ordinary effect, the three stage changes, and the fate of an announcement.
 use mathlib.Core.Path.{_≡_, refl, sym, _∙_, ap}
-use mathlib.Core.Bool.{Bool, true, false, not}
+use mathlib.Core.Bool.{Bool, true, false}
 use mathlib.Core.Logic.{_≢_}
 use Prim.Native.Nat.{ℕ, _+_, _≤_}
 use native.Mathlib.Decide.{ℕ-discrete}
 use native.Mathlib.Omega.{arith}
-use Rattle.machine.specs.Marks.{has, add, remove, has-none, has-add-other, has-remove, has-remove-other, add-has}
+use Rattle.machine.specs.Marks.{has, add, has-none, has-add-other, has-remove, has-remove-other, add-has}
 use Rattle.machine.specs.Object.{Object}
-use Rattle.machine.specs.Memory.{HeadValue, Free, Held, Content, Empty, Op, Resp, Cell, Memory, unmarked, update}
+use Rattle.machine.specs.Memory.{HeadValue, Held, Content, Empty, Op, Resp, Cell, Memory, unmarked}
 use Rattle.machine.specs.Machine.{decided, pick, linked, released}
 use Rattle.machine.specs.Invariant.{inHead, inAnnouncement, headValue, content, NotHolder}
 use Rattle.machine.specs.Potential.{Compared, AnnouncementWord, one, stale}
@@ -34,52 +34,36 @@ pub record Ordinary (m m′ : Memory) (i : ℕ) (k : Class) : Type 0 where
   pub words : (w : Compared) → one (stale m′ w) ≤ one (stale m w) + k .cost (inHead m i)
 
 module _ (m : Memory) (i : ℕ) where
+  -- Other marks in the head.
+  head-ordinary : (v : ℕ) (k : Class) → k .stage ≡ 0 → ((x : ℕ) → x ≢ i → has x v ≡ inHead m x) → one (has i v) ≤ one (inHead m i) + one (k .links)
+      → ((w : Compared) → one (stale (withHead m (record { value = headValue m; marks = v })) w) ≤ one (stale m w) + k .cost (inHead m i))
+      → Ordinary m (withHead m (record { value = headValue m; marks = v })) i k
+  head-ordinary v k s f o w = record {
+    stage = s;
+    value = refl;
+    marks = f;
+    own = o;
+    contents = λ _ _. refl;
+    holder = λ _ _ _ _. refl;
+    words = w;
+  }
+
   pub unchanged : Ordinary m m i (class Unchanged)
-  unchanged = record {
-    stage = refl;
-    value = refl;
-    marks = λ _ _. refl;
-    own = omega arith;
-    contents = λ _ _. refl;
-    holder = λ _ _ _ _. refl;
-    words = λ _. omega arith;
-  }
+  unchanged = head-ordinary (m .head .marks) (class Unchanged) refl (λ _ _. refl) (omega arith) (λ _. omega arith)
 
-  -- The own mark in the head.
-  linked-ordinary : Ordinary m (effect i Linked m) i (class Linked)
-  linked-ordinary = record {
-    stage = refl;
-    value = refl;
-    marks = λ x d. has-add-other x i _ d;
-    own = omega (arith, one-le (has i (add i (m .head .marks))));
-    contents = λ _ _. refl;
-    holder = λ _ _ _ _. refl;
-    words = λ w. go w (inHead m i) refl;
-  }
-    where
-      go : (w : Compared) (c : Bool) → inHead m i ≡ c → one (stale (effect i Linked m) w) ≤ one (stale m w) + pick c 0 1
-      go w true e =
-          let z : effect i Linked m ≡ m = (λ t. record { head = record { value = headValue m; marks = add-has i (m .head .marks) e t }; announcement = m .announcement }) in
-          rw z (omega arith)
-      go w false e = omega (arith, one-le (stale (effect i Linked m) w))
-
-  released-ordinary : Ordinary m (effect i Released m) i (class Released)
-  released-ordinary = record {
-    stage = refl;
-    value = refl;
-    marks = λ x d. has-remove-other x i _ d;
-    own = rw (has-remove i (m .head .marks)) (omega arith);
-    contents = λ _ _. refl;
-    holder = λ _ _ _ _. refl;
-    words = λ w. omega (arith, one-le (stale (effect i Released m) w));
-  }
+  -- A mark that stands already changes nothing.
+  link-words : (w : Compared) (c : Bool) → inHead m i ≡ c → one (stale (effect i Linked m) w) ≤ one (stale m w) + pick c 0 1
+  link-words w true e =
+      let z : effect i Linked m ≡ m = (λ t. record { head = record { value = headValue m; marks = add-has i (m .head .marks) e t }; announcement = m .announcement }) in
+      rw z (omega arith)
+  link-words w false e = omega (arith, one-le (stale (effect i Linked m) w))
 
   -- An announcement that keeps its content, or the own one of a task that doesn't hold the head.
-  announcement-ordinary : (j : ℕ) (a : Cell Content) (e : Effect) → class e .stage ≡ 0 → class e .cost (inHead m i) ≡ 1
+  announcement-ordinary : (j : ℕ) (a : Cell Content) (k : Class) → k .stage ≡ 0 → k .cost (inHead m i) ≡ 1
       → ((x : ℕ) → x ≢ i → content (withAnnouncement m j a) x ≡ content m x)
       → ((q t r : ℕ) → headValue m ≡ Held q t r → content (withAnnouncement m j a) t ≡ content m t)
-      → Ordinary m (withAnnouncement m j a) i (class e)
-  announcement-ordinary j a e s k f g = record {
+      → Ordinary m (withAnnouncement m j a) i k
+  announcement-ordinary j a k s e f g = record {
     stage = s;
     value = refl;
     marks = λ _ _. refl;
@@ -89,14 +73,17 @@ module _ (m : Memory) (i : ℕ) where
     words = λ w. omega (arith, one-le (stale (withAnnouncement m j a) w));
   }
 
-  pub remarked : (j k x : ℕ) → content (withAnnouncement m j (record { value = content m j; marks = k })) x ≡ content m x
-  remarked j k x = update-all (m .announcement) j _ (λ t (a : Cell Content). a .value ≡ content m t) refl (λ t _. refl) x
+  pub remarked : (j v x : ℕ) → content (withAnnouncement m j (record { value = content m j; marks = v })) x ≡ content m x
+  remarked j v x = update-all (m .announcement) j _ (λ t (a : Cell Content). a .value ≡ content m t) refl (λ t _. refl) x
+
+  remarked-ordinary : (j v : ℕ) (k : Class) → k .stage ≡ 0 → k .cost (inHead m i) ≡ 1 → Ordinary m (withAnnouncement m j (record { value = content m j; marks = v })) i k
+  remarked-ordinary j v k s e = announcement-ordinary j _ k s e (λ x _. remarked j v x) (λ _ t _ _. remarked j v t)
 
   pub elsewhere : (j x : ℕ) (a : Cell Content) → j ≢ x → content (withAnnouncement m j a) x ≡ content m x
   elsewhere j x a d = value-found (update-other (m .announcement) j a x d)
 
-  own-ordinary : (a : Content) (e : Effect) → class e .stage ≡ 0 → class e .cost (inHead m i) ≡ 1 → NotHolder (headValue m) i → Ordinary m (withAnnouncement m i (unmarked a)) i (class e)
-  own-ordinary a e s k h = announcement-ordinary i _ e s k (λ x d. elsewhere i x _ (λ z. d (sym z))) (λ q t r z. elsewhere i t _ (λ y. h q r (rw y z)))
+  own-ordinary : (a : Content) (k : Class) → k .stage ≡ 0 → k .cost (inHead m i) ≡ 1 → NotHolder (headValue m) i → Ordinary m (withAnnouncement m i (unmarked a)) i k
+  own-ordinary a k s e h = announcement-ordinary i _ k s e (λ x d. elsewhere i x _ (λ z. d (sym z))) (λ q t r z. elsewhere i t _ (λ y. h q r (rw y z)))
 
 -- Every effect is ordinary or a stage change.
 pub data Sort (b : Object) (m : Memory) (i : ℕ) : Effect → Type 0 where
@@ -107,15 +94,15 @@ pub data Sort (b : Object) (m : Memory) (i : ℕ) : Effect → Type 0 where
 
 pub sort : (b : Object) (m : Memory) (i : ℕ) (e : Effect) → Allowed b m i e → Sort b m i e
 sort b m i Unchanged a = ordinary (unchanged m i)
-sort b m i Linked a = ordinary (linked-ordinary m i)
-sort b m i Released a = ordinary (released-ordinary m i)
+sort b m i Linked a = ordinary (head-ordinary m i _ (class Linked) refl (λ x d. has-add-other x i _ d) (omega (arith, one-le (has i (add i (m .head .marks))))) (λ w. link-words m i w (inHead m i) refl))
+sort b m i Released a = ordinary (head-ordinary m i _ (class Released) refl (λ x d. has-remove-other x i _ d) (rw (has-remove i (m .head .marks)) (omega arith)) (λ w. omega (arith, one-le (stale (effect i Released m) w))))
 sort b m i Cleared a = clears a
-sort b m i Retracted a = ordinary (own-ordinary m i Empty Retracted refl refl (a .2))
+sort b m i Retracted a = ordinary (own-ordinary m i Empty (class Retracted) refl refl (a .2))
 sort b m i (Applied q j r) a = applies a
-sort b m i (LinkedAt j) a = ordinary (announcement-ordinary m i j _ (LinkedAt j) refl refl (λ x _. remarked m i j _ x) (λ _ t _ _. remarked m i j _ t))
-sort b m i (ReleasedAt j) a = ordinary (announcement-ordinary m i j _ (ReleasedAt j) refl refl (λ x _. remarked m i j _ x) (λ _ t _ _. remarked m i j _ t))
+sort b m i (LinkedAt j) a = ordinary (remarked-ordinary m i j _ (class (LinkedAt j)) refl refl)
+sort b m i (ReleasedAt j) a = ordinary (remarked-ordinary m i j _ (class (ReleasedAt j)) refl refl)
 sort b m i (HandedOver j r) a = hands-over a
-sort b m i (Announced o) a = ordinary (own-ordinary m i (Op o) (Announced o) refl refl (a .1))
+sort b m i (Announced o) a = ordinary (own-ordinary m i (Op o) (class (Announced o)) refl refl (a .1))
 
 -- ---- The fate of the announcement of task t
 

@@ -1,12 +1,12 @@
 -- Small facts about the readings of the cells that the potential is made of.
 use mathlib.Core.Path.{_≡_, refl}
-use mathlib.Core.Bool.{Bool, true, false, _||_, not}
-use Prim.Native.Nat.{ℕ, _+_, _≤_}
+use mathlib.Core.Bool.{Bool, true, false, not}
+use Prim.Native.Nat.{ℕ, _≤_}
 use native.Mathlib.Omega.{arith}
-use Rattle.machine.specs.Memory.{HeadValue, Free, Held, Content, Empty, Op, Resp, Cell, Memory}
+use Rattle.machine.specs.Memory.{Content, Empty, Op, Resp}
 use Rattle.machine.specs.Machine.{decided, pick}
 use Rattle.machine.specs.Invariant.{IsResp, IsOp}
-use Rattle.machine.specs.Potential.{one, answered, waiting, holds}
+use Rattle.machine.specs.Potential.{one, answered, waiting}
 
 pub one-le : (x : Bool) → one x ≤ 1
 one-le true = omega arith

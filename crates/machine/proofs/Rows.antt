@@ -1,11 +1,11 @@
 -- Bounds of the columns of the phases.
 use mathlib.Core.Bool.{Bool, true, false, _&&_, not}
-use Prim.Native.Nat.{ℕ, _+_, _*_, _≤_}
+use Prim.Native.Nat.{ℕ, _+_, _≤_}
 use native.Mathlib.Omega.{arith}
-use Rattle.machine.specs.Memory.{HeadValue, Content, Cell, Memory}
+use Rattle.machine.specs.Memory.{Memory}
 use Rattle.machine.specs.Machine.{Phase, Idle, ReadOnly, Announce, Poll, LoadHead, LinkHead, LoadPriority, LoadOwn, Apply, ReloadApply, LoadHelped, LinkHelped, Validate, HandOver, ReloadHandOver, Release, ReloadRelease, ClearHead, ReloadClear, LoadExit, LinkExit, ClearExit, ReleaseExit, Retract, pick}
 use Rattle.machine.specs.Invariant.{inHead}
-use Rattle.machine.specs.Potential.{extra, Row, row, one, stale, placeOf}
+use Rattle.machine.specs.Potential.{extra, polling, Row, row, stale, placeOf}
 use Rattle.machine.proofs.Readings.{one-le}
 
 -- What is to be known of the part of a rank that goes by the own mark in the head and by the own response.
@@ -13,11 +13,11 @@ pub record Extra (marked answered : Bool) : Type 0 where
   pub before : extra answered marked false ≤ extra answered marked true
   pub most : extra answered marked true ≤ 7
   -- Polling and linking.
-  pub polls : pick answered 0 2 ≤ 2
+  pub polls : polling marked answered ≤ 2 + extra answered marked false
   pub links : extra answered true true + pick marked 0 1 ≤ extra answered marked false
   pub links-exit : extra answered true false + pick marked 0 1 ≤ extra answered marked false
   -- The mark is lost, and the task polls.
-  pub lost : pick answered 0 2 + extra answered false false ≤ extra answered false true
+  pub lost : polling false answered ≤ extra answered false true
   -- Announcing and leaving.
   pub announces : extra false marked false ≤ 1
   pub leaves : 6 ≤ extra true marked false

@@ -1,5 +1,5 @@
 -- A step as the other tasks see it: what it does to the rank and the distance of its task, and to what that task owes.
-use mathlib.Core.Path.{_≡_, refl, sym, _∙_, ap}
+use mathlib.Core.Path.{_≡_, refl, _∙_, ap}
 use mathlib.Core.Bool.{Bool, true, false, _&&_, not}
 use mathlib.Core.Logic.{_≢_}
 use Prim.Native.Nat.{ℕ, _+_, _*_, _≤_}
@@ -7,12 +7,12 @@ use native.Mathlib.Decide.{ℕ-discrete}
 use native.Mathlib.Omega.{arith}
 use Rattle.machine.specs.Marks.{has, add, remove, has-add, has-remove}
 use Rattle.machine.specs.Object.{Object}
-use Rattle.machine.specs.Memory.{HeadValue, Free, Held, Content, Empty, Op, Resp, Cell, Memory, unmarked, outcomeOf}
-use Rattle.machine.specs.Machine.{Phase, Idle, Poll, ClearHead, Next, phaseOf, turns, decided, pick, linked, released}
+use Rattle.machine.specs.Memory.{Content, Empty, Op, Resp, Cell, Memory, unmarked, outcomeOf}
+use Rattle.machine.specs.Machine.{Phase, Poll, ClearHead, Next, phaseOf, turns, decided, pick, released}
 use Rattle.machine.specs.Invariant.{inHead, inAnnouncement, headValue, content, TaskSafe}
-use Rattle.machine.specs.Potential.{Row, row, Work, Elsewhere, Applying, Marking, Finishing, one, answered, waiting, holds, worksFor, dist, skips, owed, owes}
+use Rattle.machine.specs.Potential.{Row, row, Elsewhere, Applying, Finishing, one, answered, waiting, holds, dist, owed, owes}
 use Rattle.machine.proofs.Update.{update-same, update-other}
-use Rattle.machine.proofs.Effect.{Effect, Unchanged, Linked, LinkedAt, ReleasedAt, Announced, effect, withAnnouncement, Allowed}
+use Rattle.machine.proofs.Effect.{Effect, LinkedAt, ReleasedAt, Announced, effect, withAnnouncement, Allowed}
 use Rattle.machine.proofs.Branch.{Branch, stay-idle, read-only, announce, poll-response, poll-waits, load-head, link-free, link-held, link-fails, priority-waits, priority-rests, own-waits, own-response, own-empty, apply, apply-fails, reload-apply, reload-apply-lost, load-helped, link-helped, link-rested, link-helped-fails, validate, validate-fails, hand-over, hand-over-fails, reload-hand-over, reload-hand-over-lost, release, release-fails, reload-release, reload-release-lost, clear, clear-fails, reload-clear, reload-clear-lost, exit-clear, exit-release, exit-link, exit-retract, link-exit, link-exit-fails, clear-exit, clear-exit-fails, release-exit, release-exit-fails, retract}
 use Rattle.machine.proofs.Own.{value-found, mark-found, not-empty}
 use Rattle.machine.proofs.Readings.{answered-not, not-true}

@@ -1,19 +1,19 @@
 -- What the three stage changes do to the part of the head in the potential of a task with its response, whoever steps.
-use mathlib.Core.Path.{_≡_, refl, sym, _∙_, ap}
-use mathlib.Core.Bool.{Bool, true, false, _||_}
+use mathlib.Core.Path.{_≡_, refl, sym}
+use mathlib.Core.Bool.{true, false}
 use mathlib.Core.Logic.{_≢_}
-use Prim.Native.Nat.{ℕ, suc, _+_, _*_, _%_, _≤_, _<_}
+use Prim.Native.Nat.{ℕ, _+_, _≤_, _<_}
 use native.Mathlib.Decide.{ℕ-discrete}
 use native.Mathlib.Omega.{arith}
-use Rattle.machine.specs.Marks.{has, has-none}
+use Rattle.machine.specs.Marks.{has-none}
 use Rattle.machine.specs.Object.{Object}
-use Rattle.machine.specs.Memory.{HeadValue, Free, Held, Content, Op, Resp, Cell, Memory, update}
-use Rattle.machine.specs.Machine.{Phase, Task, Next, phaseOf, turns, advance, pick}
+use Rattle.machine.specs.Memory.{Held, Resp, Memory}
+use Rattle.machine.specs.Machine.{Phase, Task, Next, phaseOf, turns, advance}
 use Rattle.machine.specs.Run.{Config}
-use Rattle.machine.specs.Invariant.{inHead, headValue, content, IsResp, IsOp}
-use Rattle.machine.specs.Potential.{row, HeadWord, one, answered, stale, unanswered, rankOf, ranks, dist, atHead, headLoad}
-use Rattle.machine.proofs.Update.{update-all, update-same, update-other}
-use Rattle.machine.proofs.Effect.{Effect, Cleared, Applied, HandedOver, effect, Allowed}
+use Rattle.machine.specs.Invariant.{inHead, headValue, content, IsResp}
+use Rattle.machine.specs.Potential.{row, answered, unanswered, rankOf, ranks, dist}
+use Rattle.machine.proofs.Update.{update-all, update-same}
+use Rattle.machine.proofs.Effect.{Cleared, Applied, HandedOver, effect, Allowed}
 use Rattle.machine.proofs.Branch.{Branch, apply, hand-over, clear, clear-exit}
 use Rattle.machine.proofs.Moved.{moved, Steps}
 use Rattle.machine.proofs.Own.{value-found}
@@ -23,7 +23,7 @@ use Rattle.machine.proofs.Sums.{but-rise}
 use Rattle.machine.proofs.Ordinary.{elsewhere}
 use Rattle.machine.proofs.Distance.{applies-other}
 use Rattle.machine.proofs.Waiting.{rank-same}
-use Rattle.machine.proofs.Answered.{Due, over, goes-on}
+use Rattle.machine.proofs.Answered.{HeadDue, over, goes-on}
 
 -- ---- Their branches
 
@@ -38,22 +38,18 @@ module _ {b : Object} {m : Memory} {i k o : ℕ} where
   hand-over-keeps-rank : {f : Phase} {y : Next} {j r : ℕ} → Branch b m i k o f (HandedOver j r) y → row (phaseOf y) .rank ≡ row f .rank
   hand-over-keeps-rank (hand-over e) = refl
 
-  pub apply-turns : (n p : ℕ) {f : Phase} {y : Next} {q j r : ℕ} → Branch b m i k o f (Applied q j r) y → p < n → k < n → j ≢ p
-      → dist n p (pick (turns y) (suc k % n) k) (row (phaseOf y) .work) + 1 ≤ dist n p k (row f .work)
-  apply-turns n p (apply {j = j} e) l h d = applies-other n p k j l h d
+-- The task that applies another one than p comes nearer to p.
+pub apply-turns : {b : Object} {m : Memory} {i o : ℕ} (n p : ℕ) (t : Task) {f : Phase} {y : Next} {q j r : ℕ} → Branch b m i (t .priority) o f (Applied q j r) y → p < n → t .priority < n → j ≢ p
+    → dist n p (advance n t y .priority) (row (phaseOf y) .work) + 1 ≤ dist n p (t .priority) (row f .work)
+apply-turns n p t (apply {j = j} e) l h d = omega (arith, applies-other n p (t .priority) j l h d)
 
 -- ---- The part of the head
 
 module _ (b : Object) (n i : ℕ) (c : Config) (p : ℕ) where
-  -- The part of p's potential that is due at the head.
-  abbrev pub HeadDue : Effect → Next → Type 0
-  HeadDue e y = Due (atHead (c .memory) p) (atHead (moved n i c e y .memory) p) (headLoad n c p) (headLoad n (moved n i c e y) p)
-      (λ h. one (stale (c .memory) (HeadWord h))) (λ h. one (stale (moved n i c e y .memory) (HeadWord h)))
-
-  pub clear-head : (y : Next) → HeadDue Cleared y
+  pub clear-head : (y : Next) → HeadDue n c (moved n i c Cleared y) p
   clear-head y = over (rw (has-none p) refl)
 
-  pub apply-head : {q j r : ℕ} (y : Next) → IsResp (content (c .memory) p) → Allowed b (c .memory) i (Applied q j r) → HeadDue (Applied q j r) y
+  pub apply-head : {q j r : ℕ} (y : Next) → IsResp (content (c .memory) p) → Allowed b (c .memory) i (Applied q j r) → HeadDue n c (moved n i c (Applied q j r) y) p
   apply-head {j = j} y f (_, x, _, w, _, _) =
       over (rw (has-none p) (decided-no (ℕ-discrete j p) (λ z. resp-not-op (content (c .memory) p) f (rw (← z, w) tt))))
 
@@ -76,7 +72,7 @@ module _ (b : Object) (n i : ℕ) (c : Config) (p : ℕ) where
         mover : i ≢ j → row (phaseOf y) .rank (inHead (c .memory) i) (answered (content m′ i)) ≡ rankOf c i
         mover d t = hand-over-keeps-rank v t (inHead (c .memory) i) (answered (at i d t))
 
-    pub hand-over-head : HeadDue (HandedOver j r) y
+    pub hand-over-head : HeadDue n c (moved n i c (HandedOver j r) y) p
     hand-over-head =
         let h : headValue (c .memory) ≡ Held (a .0) j r = a .2 in
         let x : content m′ j ≡ Resp r = value-found (update-same (c .memory .announcement) j _) in

@@ -1,8 +1,7 @@
 -- Every operation ends within a number of its own steps that follows from the number of tasks alone.
-use mathlib.Core.Path.{_≡_, refl, sym, _∙_, ap}
-use mathlib.Core.Bool.{Bool, true, false}
+use mathlib.Core.Path.{_≡_, ap}
+use mathlib.Core.Bool.{true, false}
 use mathlib.Core.List.{List, [], _∷_}
-use mathlib.Core.Logic.{_≢_}
 use Prim.Native.Nat.{ℕ, suc, _+_, _*_, _≤_, _<_}
 use native.Mathlib.Decide.{ℕ-discrete}
 use native.Mathlib.Nat.{mul-add, add-mul, mul-assoc, mul-left-comm, mul-le-mul-left, mul-le-mul-right}
@@ -10,11 +9,11 @@ use native.Mathlib.Omega.{arith}
 use Rattle.machine.specs.Object.{Object}
 use Rattle.machine.specs.Machine.{Idle, Task, Next, Go, Turn, End, ends, advance, pick}
 use Rattle.machine.specs.Kind.{Kind, Off, kind, off}
-use Rattle.machine.specs.Run.{Config, Call, Begin, Step, Answer, Ended, Served, start, answerOf, begun, stepped, serve, run}
+use Rattle.machine.specs.Run.{Config, Call, Ended, Served, start, answerOf, begun, serve, run}
 use Rattle.machine.specs.Invariant.{Safe}
 use Rattle.machine.specs.Form.{Formed}
-use Rattle.machine.specs.Potential.{stageWeight, reserve, bound, potential, Bounded}
-use Rattle.machine.proofs.Update.{clash, update-same, update-other}
+use Rattle.machine.specs.Potential.{stageWeight, bound, potential, Bounded}
+use Rattle.machine.proofs.Update.{update-same, update-other}
 use Rattle.machine.proofs.Effect.{Effect}
 use Rattle.machine.proofs.Moved.{moved, Steps, steps}
 use Rattle.machine.proofs.Calls.{Serving, begins, begin-task, begin-operation, begin-pending, moves, step-task, step-idle, serving}
@@ -129,3 +128,10 @@ module _ (b : Object) (n : ℕ) where
 
     pub ended-steps : (x : Call) {r s : ℕ} → serve b n x (run b n xs (start q)) .answer ≡ Ended r s → s ≤ bound n
     ended-steps x = ended-within b n (safe-run b n xs q) (formed-run b n xs good) steps-bounded (serving b n (run b n xs (start q)) x)
+
+    -- The same by the ceiling of document 01.
+    pub pending-ceiling : (t : ℕ) → t < n → (kind (run b n xs (start q) .task t .phase) ≡ Off → ⊥) → run b n xs (start q) .task t .steps < 1000 * (n * n * n)
+    pending-ceiling t h z = omega (arith, pending-steps t h z, bound-ceiling n (omega arith))
+
+    pub ended-ceiling : (x : Call) {r s : ℕ} → 1 ≤ n → serve b n x (run b n xs (start q)) .answer ≡ Ended r s → s ≤ 1000 * (n * n * n)
+    ended-ceiling x h e = omega (arith, ended-steps x e, bound-ceiling n h)

@@ -1,5 +1,5 @@
 -- The potential of an operation that waits for its response, when the cells and the record of one task i change.
-use mathlib.Core.Path.{_≡_, refl, sym, _∙_, ap}
+use mathlib.Core.Path.{_≡_, refl, sym}
 use mathlib.Core.Bool.{Bool, true, false}
 use mathlib.Core.Logic.{_≢_}
 use Prim.Native.Nat.{ℕ, _+_, _*_, _≤_, _<_}
@@ -7,13 +7,13 @@ use native.Mathlib.Decide.{ℕ-discrete}
 use native.Mathlib.Nat.{mul-le-mul-right}
 use native.Mathlib.Omega.{arith}
 use Rattle.machine.specs.Object.{Object}
-use Rattle.machine.specs.Memory.{HeadValue, Free, Held, Content, Op, Resp, Cell, Memory, either, update}
+use Rattle.machine.specs.Memory.{HeadValue, Free, Held, Content, Op, Resp, Memory, either, update}
 use Rattle.machine.specs.Machine.{Task, pick}
 use Rattle.machine.specs.Run.{Config}
 use Rattle.machine.specs.Invariant.{inHead, headValue, content}
-use Rattle.machine.specs.Potential.{row, answered, waiting, one, stale, but, sum, rankOf, ranks, dist, distOf, dists, stages, stageWeight, reserve, placeOf, waitingPotential, bound}
+use Rattle.machine.specs.Potential.{row, answered, waiting, but, rankOf, ranks, dist, distOf, dists, stages, stageWeight, reserve, placeOf, waitingPotential, bound}
 use Rattle.machine.proofs.Update.{update-same, update-other, either-no}
-use Rattle.machine.proofs.Effect.{Effect, Cleared, Applied, HandedOver, effect, Allowed}
+use Rattle.machine.proofs.Effect.{Cleared, Applied, HandedOver, effect, Allowed}
 use Rattle.machine.proofs.Own.{value-found}
 use Rattle.machine.proofs.Readings.{waiting-not, resp-not-op}
 use Rattle.machine.proofs.Class.{Class}
@@ -32,12 +32,19 @@ ranks-most n c p h = but-most n p (rankOf c) (rankOf c) 9 h (λ x. row-bounds (c
 pub rank-same : {s s′ : Task} {h h′ : Bool} {a a′ : Content} → s′ ≡ s → h′ ≡ h → a′ ≡ a → row (s′ .phase) .rank h′ (answered a′) ≡ row (s .phase) .rank h (answered a)
 rank-same e f g t = row (e t .phase) .rank (f t) (answered (g t))
 
+-- The rank of task i pays the cost of a change of class s.
+abbrev pub Pays : (i : ℕ) → Config → Memory → Task → Class → Type 0
+Pays i c m′ t′ s = row (t′ .phase) .rank (inHead m′ i) (answered (content m′ i)) + s .cost (inHead (c .memory) i) ≤ rankOf c i
+
+-- What another task p has of it.
+abbrev pub share : (i : ℕ) → Config → Class → (p : ℕ) → ℕ
+share i c s p = but p (λ _. s .cost (inHead (c .memory) i)) i
+
 module _ (n i : ℕ) (lt : i < n) (c : Config) (m′ : Memory) (t′ : Task) where
-  -- Task i gives up k of its rank, and the ranks of the others stay.
-  pub ranks-fall : {s : Class} (k : ℕ) → Ordinary (c .memory) m′ i s → row (t′ .phase) .rank (inHead m′ i) (answered (content m′ i)) + k ≤ rankOf c i
-      → (p : ℕ) → ranks n (with i c m′ t′) p + but p (λ _. k) i ≤ ranks n c p
-  ranks-fall k o h p =
-      but-change n p (rankOf c) (rankOf (with i c m′ t′)) i k lt
+  -- The ranks of the others stay.
+  pub ranks-fall : {s : Class} → Ordinary (c .memory) m′ i s → Pays i c m′ t′ s → (p : ℕ) → ranks n (with i c m′ t′) p + share i c s p ≤ ranks n c p
+  ranks-fall {s} o h p =
+      but-change n p (rankOf c) (rankOf (with i c m′ t′)) i (s .cost (inHead (c .memory) i)) lt
       (λ x d. omega (arith, rank-same (update-other (c .task) i t′ x (λ z. d (sym z))) (o .marks x d) (o .contents x d)))
       (rw (rankOf, update-same (c .task) i t′) h)
 
@@ -100,24 +107,22 @@ weigh : (a a′ w r r′ l l′ e s k : ℕ) → a′ ≤ a → r′ + s ≤ r �
 weigh a a′ w r r′ l l′ e s k x y z = omega (arith, mul-le-mul-right w x)
 
 -- One stage less pays for everything else.
-pub pays : (n a a′ r r′ l l′ e : ℕ) → a′ + 1 ≤ a → r′ + 9 ≤ n * 9 → l′ ≤ 37 → a′ * stageWeight n + 5 * r′ + l′ + e + 1 ≤ a * stageWeight n + 5 * r + l + e
-pays n a a′ r r′ l l′ e x y z = omega (arith, mul-le-mul-right (stageWeight n) x)
+pub stage-pays : (n a a′ r r′ l l′ e : ℕ) → a′ + 1 ≤ a → r′ + 9 ≤ n * 9 → l′ ≤ 37 → a′ * stageWeight n + 5 * r′ + l′ + e + 1 ≤ a * stageWeight n + 5 * r + l + e
+stage-pays n a a′ r r′ l l′ e x y z = omega (arith, mul-le-mul-right (stageWeight n) x)
 
 module _ (n i : ℕ) (lt : i < n) (c : Config) (m′ : Memory) (t′ : Task) (p : ℕ) where
   -- An ordinary change, whoever p is; k is what its place gains.
-  pub waiting-stays : {s : Class} (k : ℕ) → Ordinary (c .memory) m′ i s
-      → row (t′ .phase) .rank (inHead m′ i) (answered (content m′ i)) + s .cost (inHead (c .memory) i) ≤ rankOf c i
-      → dists n p (with i c m′ t′) ≤ dists n p c
-      → placeOf m′ p (row (with i c m′ t′ .task p .phase)) + k ≤ placeOf (c .memory) p (row (c .task p .phase)) + 5 * but p (λ _. s .cost (inHead (c .memory) i)) i
+  pub waiting-stays : {s : Class} (k : ℕ) → Ordinary (c .memory) m′ i s → Pays i c m′ t′ s → dists n p (with i c m′ t′) ≤ dists n p c
+      → placeOf m′ p (row (with i c m′ t′ .task p .phase)) + k ≤ placeOf (c .memory) p (row (c .task p .phase)) + 5 * share i c s p
       → waitingPotential n (with i c m′ t′) p + k ≤ waitingPotential n c p
   waiting-stays {s} k o r d l =
-      weigh _ _ (stageWeight n) _ _ _ _ (reserve n) (but p (λ _. s .cost (inHead (c .memory) i)) i) k
+      weigh _ _ (stageWeight n) _ _ _ _ (reserve n) (share i c s p) k
       (stages-stay p _ _ (c .memory) m′ (headValue (c .memory)) (o .value) d (o .holder))
-      (ranks-fall n i lt c m′ t′ (s .cost (inHead (c .memory) i)) o r p) l
+      (ranks-fall n i lt c m′ t′ o r p) l
 
   -- The place of another task p: an ordinary change makes at most its compared word stale.
   pub place-other : {s : Class} → Ordinary (c .memory) m′ i s → i ≢ p
-      → placeOf m′ p (row (with i c m′ t′ .task p .phase)) + 0 ≤ placeOf (c .memory) p (row (c .task p .phase)) + 5 * but p (λ _. s .cost (inHead (c .memory) i)) i
+      → placeOf m′ p (row (with i c m′ t′ .task p .phase)) + 0 ≤ placeOf (c .memory) p (row (c .task p .phase)) + 5 * share i c s p
   place-other {s} o d =
       rw (update-other (c .task) i t′ p d, o .marks p (λ z. d (sym z)), either-no (ℕ-discrete i p) 0 (s .cost (inHead (c .memory) i)) d)
       (omega (arith, o .words (row (c .task p .phase) .compared)))
@@ -125,11 +130,11 @@ module _ (n i : ℕ) (lt : i < n) (c : Config) (m′ : Memory) (t′ : Task) (p 
   -- A stage change.
   pub waiting-falls : p < n → stages p (dists n p (with i c m′ t′)) m′ (headValue m′) + 1 ≤ stages p (dists n p c) (c .memory) (headValue (c .memory))
       → waitingPotential n (with i c m′ t′) p + 1 ≤ waitingPotential n c p
-  waiting-falls h x = pays n _ _ _ _ _ _ (reserve n) x (ranks-most n (with i c m′ t′) p h) (place-most m′ p (with i c m′ t′ .task p .phase))
+  waiting-falls h x = stage-pays n _ _ _ _ _ _ (reserve n) x (ranks-most n (with i c m′ t′) p h) (place-most m′ p (with i c m′ t′ .task p .phase))
 
 -- The most that it may be.
 pub waiting-most : (n : ℕ) (c : Config) (p : ℕ) → p < n → waitingPotential n c p + 1 ≤ bound n
 waiting-most n c p h =
     let near : dists n p c ≤ n * n = sum-most n n (distOf n p c) (λ x. dist-most n p (c .task x .priority) (row (c .task x .phase) .work) h) in
     let few : stages p (dists n p c) (c .memory) (headValue (c .memory)) + 1 ≤ 3 * (n * n) + 5 = omega (arith, stages-most p (dists n p c) (c .memory) (headValue (c .memory))) in
-    omega (arith, pays n _ _ 0 _ 0 _ (reserve n) few (ranks-most n c p h) (place-most (c .memory) p (c .task p .phase)))
+    omega (arith, stage-pays n _ _ 0 _ 0 _ (reserve n) few (ranks-most n c p h) (place-most (c .memory) p (c .task p .phase)))

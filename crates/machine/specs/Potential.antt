@@ -239,8 +239,8 @@ atHead m i = inHead m i || holds i (headValue m)
 abbrev pub headLoad : ℕ → Config → ℕ → ℕ
 headLoad n c i = ranks n c i + 1 + pick (unanswered (c .memory) (headValue (c .memory))) 9 0
 
-abbrev pub headPart : ℕ → Config → ℕ → Work → ℕ
-headPart n c i w = pick (atHead (c .memory) i) (headLoad n c i) 0 + pick (linking w) (9 * n + 1) 0
+abbrev pub headPart : ℕ → Config → ℕ → ℕ
+headPart n c i = pick (atHead (c .memory) i) (headLoad n c i) 0
 
 -- The part of the announcement of task t: due while the own mark stands in it.
 abbrev pub debts : ℕ → Config → (i t : ℕ) → ℕ
@@ -249,19 +249,26 @@ debts n c i t = sum n (but i (λ x. owes (c .memory) x t (row (c .task x .phase)
 abbrev pub markPart : ℕ → Config → (i t : ℕ) → ℕ
 markPart n c i t = pick (inAnnouncement (c .memory) i t) (1 + debts n c i t) 0
 
-abbrev pub announcementPart : ℕ → Config → ℕ → Work → ℕ
-announcementPart n c i Elsewhere = 0
-announcementPart n c i Linking = 4 * n + 1
-announcementPart n c i Passing = 0
-announcementPart n c i (Applying j) = 0
-announcementPart n c i (Approaching j) = 4 * n + 1
-announcementPart n c i (Marking j) = markPart n c i j
-announcementPart n c i (Finishing j) = 0
+-- What is set aside before the links of the head and of an announcement, by the parts that are due then.
+abbrev pub headAside : ℕ → Work → ℕ
+headAside n w = pick (linking w) (9 * n + 1) 0
+
+abbrev pub announcementAside : ℕ → (ℕ → ℕ) → Work → ℕ
+announcementAside n marks Elsewhere = 0
+announcementAside n marks Linking = 4 * n + 1
+announcementAside n marks Passing = 0
+announcementAside n marks (Applying j) = 0
+announcementAside n marks (Approaching j) = 4 * n + 1
+announcementAside n marks (Marking j) = marks j
+announcementAside n marks (Finishing j) = 0
+
+-- The own place, with the part of the head and the parts of the announcements.
+abbrev pub lasts : (n head : ℕ) → (ℕ → ℕ) → Memory → Row → ℕ
+lasts n head marks m r =
+    5 * (head + headAside n (r .work) + announcementAside n marks (r .work) + one (counts (r .work) && stale m (r .compared))) + r .position true
 
 abbrev pub answeredPotential : ℕ → Config → ℕ → ℕ
-answeredPotential n c i =
-    let r = row (c .task i .phase) in
-    5 * (headPart n c i (r .work) + announcementPart n c i (r .work) + one (counts (r .work) && stale (c .memory) (r .compared))) + r .position true
+answeredPotential n c i = lasts n (headPart n c i) (markPart n c i) (c .memory) (row (c .task i .phase))
 
 -- ---- The potential of the operation of task i
 
