@@ -16,9 +16,6 @@ pub and-right : (a b : Bool) → a && b ≡ true → b ≡ true
 and-right true b e = e
 and-right false b e = absurd (let z : _≡_ {A = ℕ} 0 1 = cc in omega arith)
 
-pub and-both : (a b : Bool) → a ≡ true → b ≡ true → a && b ≡ true
-and-both a b e g = rw (e, g)
-
 -- The test f holds at every number below n.
 abbrev pub holdsBelow : ℕ → (ℕ → Bool) → Bool
 holdsBelow zero f = true
