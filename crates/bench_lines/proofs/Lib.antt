@@ -1,2 +1,3 @@
 pub mod Fields
 pub mod Texts
+pub mod Runs

@@ -1,4 +1,6 @@
-// The bench: what its input lines mean, and the lines that it prints.
+// The bench: what its input lines mean, the run that they are served on, and the lines that it prints.
 pub mod command;
+pub mod input;
 pub mod reply;
+pub mod run;
 pub mod text;

@@ -1,0 +1,3 @@
+fn main() {
+    bench_lines::input::serve_all();
+}
