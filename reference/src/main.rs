@@ -13,14 +13,18 @@ mod explore;
 mod invariant;
 mod lines;
 mod longest;
+mod longest_path;
 mod machine;
 mod objects;
+mod packed_point;
 mod phase;
 mod potential;
 mod process;
 mod random;
 mod random_runs;
 mod record;
+mod reduced;
+mod reduced_graph;
 mod refusal;
 mod script_cases;
 mod table;
@@ -50,6 +54,7 @@ fn main() -> ExitCode {
         ["check-table"] => check_table(),
         ["compare-tables", program] => compare_tables::compare_tables(program).map(print_line),
         ["explore"] => exploration::explore_all().map(print_line),
+        ["count", n] => count_points(n.parse().unwrap()).map(print_line),
         ["bench"] => bench_here(),
         ["compare-bench", program] => compare_bench(program, RANDOM_SCRIPTS).map(print_line),
         ["compare-bench", program, count] => match count.parse() {
@@ -95,4 +100,32 @@ fn bench_here() -> Result<(), String> {
         bench::output(&bench::read_table_file(Path::new(".")), &input)
     );
     Ok(())
+}
+
+fn count_points(tasks: usize) -> Result<String, String> {
+    let file = table_file::TableFile::plain(2, 1, 0, &[(0, 0), (0, 0)]);
+    let table = table::Table::check(&file.to_bytes()).unwrap();
+    let chase = reduced::Chase { table: &table, operation: 0, victim: 0 };
+    let graph = reduced_graph::ReducedGraph::explore(chase, tasks, 30_000_000)?;
+    use longest::Counted;
+    let longest = longest::longest_from_all(&graph)?;
+    let most = *longest.iter().max().unwrap();
+    let best = longest.iter().position(|&x| x == most).unwrap();
+    let mut moves = graph.way_to(best);
+    moves.extend(longest_path::longest_path(&graph, &longest, best));
+    let mut point = configuration::Configuration::started(&table, tasks).unwrap();
+    let mut calls = Vec::new();
+    chase.settle(&mut point, &mut calls);
+    let mut total = 0;
+    for m in &moves {
+        let mut made = Vec::new();
+        let from = point.record(*m).known_phase();
+        let w = chase.go_on(&mut point, *m, &mut made);
+        total += w;
+        println!("{m} {from:?} -> {:?}  w {w} total {total} head {:x} {:?} | {}", point.record(*m).known_phase(), point.head() & 0xff, point.holder().map(|h| h.task),
+          (0..tasks).map(|t| format!("{:?}/{}", point.record(t).known_phase(), point.record(t).priority)).collect::<Vec<_>>().join("  "));
+        calls.extend(made);
+    }
+    println!("moves {} calls {}", moves.len(), calls.len());
+    Ok(format!("{} points, longest {}", graph.count_points(), longest.iter().max().unwrap()))
 }
