@@ -18,9 +18,9 @@ pub trait Counted {
 }
 
 /// A graph of all points, seen by one of its tasks.
-struct SeenBy<'a> {
-    graph: &'a Graph,
-    task: usize,
+pub struct SeenBy<'a> {
+    pub graph: &'a Graph,
+    pub task: usize,
 }
 
 impl Counted for SeenBy<'_> {

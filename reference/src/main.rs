@@ -8,14 +8,17 @@ mod cells;
 mod compare_bench;
 mod compare_tables;
 mod configuration;
+mod estimate;
 mod exploration;
 mod explore;
 mod invariant;
 mod lines;
+mod long_operations;
 mod longest;
 mod longest_path;
 mod machine;
 mod objects;
+mod opening;
 mod packed_point;
 mod phase;
 mod potential;
@@ -26,7 +29,9 @@ mod record;
 mod reduced;
 mod reduced_graph;
 mod refusal;
+mod replay;
 mod script_cases;
+mod search;
 mod table;
 mod table_cases;
 mod table_file;
@@ -43,6 +48,8 @@ use compare_bench::{compare_bench, write_listing, RANDOM_SCRIPTS};
 const USAGE: &str = "usage: reference check-table < FILE
        reference compare-tables PATH_TO_check_table
        reference explore
+       reference search [TASKS]
+       reference longest [TASKS]
        reference bench < LINES
        reference compare-bench PATH_TO_bench [COUNT]
        reference listing FOLDER";
@@ -54,7 +61,10 @@ fn main() -> ExitCode {
         ["check-table"] => check_table(),
         ["compare-tables", program] => compare_tables::compare_tables(program).map(print_line),
         ["explore"] => exploration::explore_all().map(print_line),
-        ["count", n] => count_points(n.parse().unwrap()).map(print_line),
+        ["search"] => long_operations::search_for(&[1, 2, 3, 4, 5, 6, 7, 8]),
+        ["search", tasks] => task_count(tasks).and_then(|tasks| long_operations::search_for(&[tasks])),
+        ["longest"] => long_operations::exact_for(&[1, 2, 3]),
+        ["longest", tasks] => task_count(tasks).and_then(|tasks| long_operations::exact_for(&[tasks])),
         ["bench"] => bench_here(),
         ["compare-bench", program] => compare_bench(program, RANDOM_SCRIPTS).map(print_line),
         ["compare-bench", program, count] => match count.parse() {
@@ -70,6 +80,14 @@ fn main() -> ExitCode {
             eprintln!("{message}");
             ExitCode::FAILURE
         }
+    }
+}
+
+/// A number of tasks from 1 to 8.
+fn task_count(word: &str) -> Result<usize, String> {
+    match word.parse() {
+        Ok(tasks) if ceiling::ceiling(tasks).is_ok() => Ok(tasks),
+        _ => Err(USAGE.to_string()),
     }
 }
 
@@ -100,32 +118,4 @@ fn bench_here() -> Result<(), String> {
         bench::output(&bench::read_table_file(Path::new(".")), &input)
     );
     Ok(())
-}
-
-fn count_points(tasks: usize) -> Result<String, String> {
-    let file = table_file::TableFile::plain(2, 1, 0, &[(0, 0), (0, 0)]);
-    let table = table::Table::check(&file.to_bytes()).unwrap();
-    let chase = reduced::Chase { table: &table, operation: 0, victim: 0 };
-    let graph = reduced_graph::ReducedGraph::explore(chase, tasks, 30_000_000)?;
-    use longest::Counted;
-    let longest = longest::longest_from_all(&graph)?;
-    let most = *longest.iter().max().unwrap();
-    let best = longest.iter().position(|&x| x == most).unwrap();
-    let mut moves = graph.way_to(best);
-    moves.extend(longest_path::longest_path(&graph, &longest, best));
-    let mut point = configuration::Configuration::started(&table, tasks).unwrap();
-    let mut calls = Vec::new();
-    chase.settle(&mut point, &mut calls);
-    let mut total = 0;
-    for m in &moves {
-        let mut made = Vec::new();
-        let from = point.record(*m).known_phase();
-        let w = chase.go_on(&mut point, *m, &mut made);
-        total += w;
-        println!("{m} {from:?} -> {:?}  w {w} total {total} head {:x} {:?} | {}", point.record(*m).known_phase(), point.head() & 0xff, point.holder().map(|h| h.task),
-          (0..tasks).map(|t| format!("{:?}/{}", point.record(t).known_phase(), point.record(t).priority)).collect::<Vec<_>>().join("  "));
-        calls.extend(made);
-    }
-    println!("moves {} calls {}", moves.len(), calls.len());
-    Ok(format!("{} points, longest {}", graph.count_points(), longest.iter().max().unwrap()))
 }

@@ -109,7 +109,14 @@ pub fn unpack(word: u64, tasks: usize, victim: usize) -> Configuration {
     for (task, record) in row.iter_mut().enumerate() {
         restore_saved(task, record, &cells);
     }
-    restore_marks(&mut row[victim], &cells, linked, head_marks, announcement_marks, victim);
+    restore_marks(
+        &mut row[victim],
+        &cells,
+        linked,
+        head_marks,
+        announcement_marks,
+        victim,
+    );
     Configuration::of_parts(&cells, &row)
 }
 
@@ -160,8 +167,6 @@ fn restore_saved(task: usize, record: &mut Record, cells: &[u64]) {
     };
     record.announcement = match phase {
         Phase::LinkHelped(helped) => cells[helped + 1],
-        _ => phase
-            .marked_announcement()
-            .map_or(0, |helped| cells[helped + 1]),
+        _ => phase.marked_announcement().map_or(0, |helped| cells[helped + 1]),
     };
 }

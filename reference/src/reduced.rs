@@ -20,7 +20,16 @@ pub struct Chase<'a> {
     pub victim: usize,
 }
 
-impl Chase<'_> {
+impl<'a> Chase<'a> {
+    /// A chase over the object that stands still. Task 0 is as good a victim as any: the start looks the same to all.
+    pub fn of_still(table: &'a Table) -> Chase<'a> {
+        Chase {
+            table,
+            operation: 0,
+            victim: 0,
+        }
+    }
+
     /// The call that a task can make: the begin of the operation if it is idle, else a step.
     pub fn call_of(&self, point: &Configuration, task: usize) -> Call {
         match point.record(task).is_pending() {
@@ -78,5 +87,18 @@ impl Chase<'_> {
             }
             _ => is_stale(point, task, phase),
         }
+    }
+
+    /// A number for a settled point; the saved words of others follow from the cells and are left out.
+    pub fn hash(&self, point: &Configuration) -> u64 {
+        let mix = |sum: u64, word: u64| (sum.rotate_left(5) ^ word).wrapping_mul(0x517c_c1b7_2722_0a95);
+        let cells = point.cells().iter().copied().fold(0, mix);
+        let places = point
+            .row()
+            .iter()
+            .map(|record| u64::from(record.phase) | u64::from(record.priority) << 8);
+        let victim = point.record(self.victim);
+        let sum = mix(mix(places.fold(cells, mix), victim.head), victim.announcement);
+        sum ^ (sum >> 32)
     }
 }
