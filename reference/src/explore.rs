@@ -179,6 +179,10 @@ impl Graph {
 
 #[cfg(test)]
 impl Graph {
+    pub fn point(&self, number: usize) -> Configuration {
+        unpack(&self.points[number], self.tasks)
+    }
+
     /// A graph of the given edges, in which task 0 is pending at the named points.
     pub fn of_edges(pending: &[bool], edges: &[&[Edge]]) -> Graph {
         let mut graph = Graph {

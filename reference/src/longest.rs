@@ -9,28 +9,62 @@ use crate::explore::Graph;
 const UNSEEN: u32 = u32::MAX;
 const CLOSED: u32 = u32::MAX - 1;
 
+/// Points and the transitions between them, as one task counts them.
+pub trait Counted {
+    fn count_points(&self) -> usize;
+    fn is_pending(&self, point: usize) -> bool;
+    /// Target and own steps of one of the transitions that leave a point, by their places.
+    fn transition(&self, point: usize, place: usize) -> Option<(usize, u32)>;
+}
+
+/// A graph of all points, seen by one of its tasks.
+pub struct SeenBy<'a> {
+    pub graph: &'a Graph,
+    pub task: usize,
+}
+
+impl Counted for SeenBy<'_> {
+    fn count_points(&self) -> usize {
+        self.graph.count_points()
+    }
+
+    fn is_pending(&self, point: usize) -> bool {
+        self.graph.is_pending(point, self.task)
+    }
+
+    fn transition(&self, point: usize, place: usize) -> Option<(usize, u32)> {
+        let edge = self.graph.edges_of(point).get(place)?;
+        let own = edge.is_step && usize::from(edge.task) == self.task;
+        Some((edge.target as usize, u32::from(own)))
+    }
+}
+
 /// The longest count of own steps, or the news that there is none.
 pub fn longest_own_steps(graph: &Graph, task: usize) -> Result<u32, String> {
+    let longest = longest_from_all(&SeenBy { graph, task })?;
+    Ok(longest.into_iter().max().unwrap_or(0))
+}
+
+/// For each point the longest count of own steps from there to the end; 0 where nothing is pending.
+pub fn longest_from_all(graph: &impl Counted) -> Result<Vec<u32>, String> {
     let mut search = Search {
         graph,
-        task,
         lowest: vec![UNSEEN; graph.count_points()],
         longest: vec![0; graph.count_points()],
         open: Vec::new(),
         met: 0,
     };
     for number in 0..graph.count_points() {
-        if graph.is_pending(number, task) && search.lowest[number] == UNSEEN {
+        if graph.is_pending(number) && search.lowest[number] == UNSEEN {
             search.run(number)?;
         }
     }
-    Ok(search.longest.into_iter().max().unwrap_or(0))
+    Ok(search.longest)
 }
 
 /// Tarjan's search with its own stack. Parts are closed after all parts that they lead to.
-struct Search<'a> {
-    graph: &'a Graph,
-    task: usize,
+struct Search<'a, G: Counted> {
+    graph: &'a G,
     /// UNSEEN, CLOSED, or the lowest number of an open point that is known to be reached.
     lowest: Vec<u32>,
     /// For closed points: the longest count of own steps from here to the end.
@@ -42,22 +76,20 @@ struct Search<'a> {
 struct Visit {
     point: usize,
     order: u32,
-    next_edge: usize,
+    next_place: usize,
 }
 
-impl Search<'_> {
+impl<G: Counted> Search<'_, G> {
     fn run(&mut self, root: usize) -> Result<(), String> {
         let mut path = vec![self.meet(root)];
         while let Some(visit) = path.last_mut() {
             let point = visit.point;
-            let edges = self.graph.edges_of(point);
-            if let Some(edge) = edges.get(visit.next_edge) {
-                let target = edge.target as usize;
-                if self.graph.is_pending(target, self.task) && self.lowest[target] == UNSEEN {
+            if let Some((target, _)) = self.graph.transition(point, visit.next_place) {
+                if self.graph.is_pending(target) && self.lowest[target] == UNSEEN {
                     let next = self.meet(target);
                     path.push(next);
                 } else {
-                    visit.next_edge += 1;
+                    visit.next_place += 1;
                     self.note_reached(point, target);
                 }
                 continue;
@@ -78,7 +110,7 @@ impl Search<'_> {
         Visit {
             point,
             order,
-            next_edge: 0,
+            next_place: 0,
         }
     }
 
@@ -99,23 +131,29 @@ impl Search<'_> {
         let part = self.open.split_off(first);
         let mut longest = 0;
         for &point in &part {
-            for edge in self.graph.edges_of(point) {
-                let own = edge.is_step && usize::from(edge.task) == self.task;
-                let target = edge.target as usize;
-                let inside = self.graph.is_pending(target, self.task) && self.lowest[target] < CLOSED;
-                if own && inside {
-                    return Err(format!("task {} may make own steps for ever", self.task));
-                }
-                if !inside {
-                    longest = longest.max(self.longest[target] + u32::from(own));
-                }
-            }
+            longest = longest.max(self.longest_leaving(point)?);
         }
         for &point in &part {
             self.lowest[point] = CLOSED;
             self.longest[point] = longest;
         }
         Ok(())
+    }
+
+    /// The longest count over the transitions that lead out of the open part of a point.
+    fn longest_leaving(&self, point: usize) -> Result<u32, String> {
+        let mut longest = 0;
+        let mut place = 0;
+        while let Some((target, own_steps)) = self.graph.transition(point, place) {
+            let inside = self.graph.is_pending(target) && self.lowest[target] < CLOSED;
+            match inside {
+                true if own_steps > 0 => return Err("a task may make own steps for ever".to_string()),
+                true => {}
+                false => longest = longest.max(self.longest[target] + own_steps),
+            }
+            place += 1;
+        }
+        Ok(longest)
     }
 }
 

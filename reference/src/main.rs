@@ -8,21 +8,30 @@ mod cells;
 mod compare_bench;
 mod compare_tables;
 mod configuration;
+mod estimate;
 mod exploration;
 mod explore;
 mod invariant;
 mod lines;
+mod long_operations;
 mod longest;
+mod longest_path;
 mod machine;
 mod objects;
+mod opening;
+mod packed_point;
 mod phase;
 mod potential;
 mod process;
 mod random;
 mod random_runs;
 mod record;
+mod reduced;
+mod reduced_graph;
 mod refusal;
+mod replay;
 mod script_cases;
+mod search;
 mod table;
 mod table_cases;
 mod table_file;
@@ -39,6 +48,8 @@ use compare_bench::{compare_bench, write_listing, RANDOM_SCRIPTS};
 const USAGE: &str = "usage: reference check-table < FILE
        reference compare-tables PATH_TO_check_table
        reference explore
+       reference search [TASKS]
+       reference longest [TASKS]
        reference bench < LINES
        reference compare-bench PATH_TO_bench [COUNT]
        reference listing FOLDER";
@@ -50,6 +61,10 @@ fn main() -> ExitCode {
         ["check-table"] => check_table(),
         ["compare-tables", program] => compare_tables::compare_tables(program).map(print_line),
         ["explore"] => exploration::explore_all().map(print_line),
+        ["search"] => long_operations::search_for(&[1, 2, 3, 4, 5, 6, 7, 8]),
+        ["search", tasks] => task_count(tasks).and_then(|tasks| long_operations::search_for(&[tasks])),
+        ["longest"] => long_operations::exact_for(&[1, 2, 3]),
+        ["longest", tasks] => task_count(tasks).and_then(|tasks| long_operations::exact_for(&[tasks])),
         ["bench"] => bench_here(),
         ["compare-bench", program] => compare_bench(program, RANDOM_SCRIPTS).map(print_line),
         ["compare-bench", program, count] => match count.parse() {
@@ -65,6 +80,14 @@ fn main() -> ExitCode {
             eprintln!("{message}");
             ExitCode::FAILURE
         }
+    }
+}
+
+/// A number of tasks from 1 to 8.
+fn task_count(word: &str) -> Result<usize, String> {
+    match word.parse() {
+        Ok(tasks) if ceiling::ceiling(tasks).is_ok() => Ok(tasks),
+        _ => Err(USAGE.to_string()),
     }
 }
 

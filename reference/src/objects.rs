@@ -1,13 +1,10 @@
-//! The three objects that the explorer tries.
+//! The three objects that the explorer tries, and the smallest one.
 
 use crate::table::Table;
 use crate::table_file::TableFile;
 
 pub fn explored_objects() -> Vec<(&'static str, Table)> {
-    let named = |(name, file): (&'static str, TableFile)| {
-        let table = Table::check(&file.to_bytes()).expect("the explored objects are valid");
-        (name, table)
-    };
+    let named = |(name, file): (&'static str, TableFile)| (name, checked(file));
     [
         ("flag", TableFile::flag()),
         ("counter", counter()),
@@ -15,6 +12,21 @@ pub fn explored_objects() -> Vec<(&'static str, Table)> {
     ]
     .map(named)
     .into()
+}
+
+fn checked(file: TableFile) -> Table {
+    Table::check(&file.to_bytes()).expect("the objects are valid")
+}
+
+/// An object that stands still: its one operation leads from state 1 to 0 and so counts as changing, but state 1 is out
+/// of reach, and every response is 0.
+pub fn still() -> Table {
+    checked(TableFile::plain(2, 1, 0, &[(0, 0), (0, 0)]))
+}
+
+/// The counter, and its operation that counts up and so always changes the state.
+pub fn counter_up() -> (Table, usize) {
+    (checked(counter()), 1)
 }
 
 /// A counter modulo 3: 0 reads, 1 counts up, 2 counts down; the response is the old state.
@@ -30,6 +42,18 @@ fn counter() -> TableFile {
 fn latch() -> TableFile {
     let entries = [[(1, 10), (0, 11)], [(0, 20), (1, 21)], [(2, 30), (0, 31)]];
     TableFile::plain(3, 2, 0, entries.as_flattened())
+}
+
+/// All objects, each with one changing operation.
+#[cfg(test)]
+pub fn changing_objects() -> Vec<(&'static str, Table, usize)> {
+    let with_operation = |(name, table): (&'static str, Table)| match name {
+        "latch" => (name, table, 0),
+        _ => (name, table, 1),
+    };
+    let mut objects: Vec<_> = explored_objects().into_iter().map(with_operation).collect();
+    objects.push(("still", still(), 0));
+    objects
 }
 
 #[cfg(test)]

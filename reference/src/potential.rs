@@ -103,7 +103,7 @@ fn distance(point: &Configuration, other: usize, task: usize) -> u32 {
 }
 
 /// The word that the task's next swap compares with is not in the cell any more.
-fn is_stale(point: &Configuration, task: usize, phase: Phase) -> bool {
+pub fn is_stale(point: &Configuration, task: usize, phase: Phase) -> bool {
     let record = point.record(task);
     match phase {
         Phase::LinkHead
