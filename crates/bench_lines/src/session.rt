@@ -22,7 +22,7 @@ pub struct Session {
 }
 
 // The session before the first byte.
-pub fn begin() -> Session
+pub(crate) fn begin() -> Session
     ensures { λ r. ⌜ Follows newSession r ⌝ }
 {
     Session {
@@ -43,7 +43,7 @@ fn held_command(line: [u8; 64], len: usize) -> Command
 }
 
 // The line has come to its end: it is served, and what it is answered with is printed.
-pub fn end_line(file: &[u8], session: Session) -> Session
+pub(crate) fn end_line(file: &[u8], session: Session) -> Session
     ensures { λ r. ⌜ ((fed : Fed) → Follows fed session → Follows (endLine (now (file .entry)) fed) r) ⌝ }
 {
     let line = session.line;
@@ -84,7 +84,7 @@ fn take_in(file: &[u8], session: Session, byte: u8) -> Session
 }
 
 // A part of the input.
-pub fn take_all(file: &[u8], session: Session, bytes: &[u8]) -> Session
+pub(crate) fn take_all(file: &[u8], session: Session, bytes: &[u8]) -> Session
     ensures { λ r. ⌜ ((fed : Fed) → Follows fed session → Follows (feed (now (file .entry)) fed (now (bytes .entry))) r) ⌝ }
 {
     let mut held = session;
