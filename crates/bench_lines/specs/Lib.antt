@@ -1,3 +1,4 @@
 pub mod Command
 pub mod Line
 pub mod Run
+pub mod Session

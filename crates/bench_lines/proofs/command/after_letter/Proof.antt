@@ -3,7 +3,7 @@ use mathlib.Core.Path.{_∙_, ap, sym}
 use mathlib.Core.List.{List}
 use Prim.Native.Nat.{ℕ, _+_}
 use native.Mathlib.Omega.{arith}
-use lib.ListN.{length, take, drop}
+use lib.ListN.{drop}
 use lib.Seq.{take-all, length-take-le}
 use Rattle.bench_lines.specs.Command.{fieldsOf, numberOf, withOne, afterNumber, afterLetter}
 use Rattle.bench_lines.proofs.Fields.{one-field, first-field, to-the-end}

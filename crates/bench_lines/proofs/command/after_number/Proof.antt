@@ -1,7 +1,6 @@
 use borrow.Author.Needs.{needs}
 use mathlib.Core.Path.{_∙_, ap, sym}
 use native.Mathlib.Omega.{arith}
-use lib.ListN.{length}
 use Rattle.bench_lines.specs.Command.{withTwo, afterNumber}
 use Rattle.bench_lines.proofs.Fields.{one-field, first-field}
 use Rattle.bench_lines.proofs.command.after_number.Statement.{statement}

@@ -1,10 +1,8 @@
 use borrow.Author.Needs.{needs}
 use mathlib.Core.Path.{_∙_}
-use lib.ListN.{length}
 use lib.Seq.{take-length}
 use native.Mathlib.Omega.{arith}
-use Rattle.bytes.specs.Bytes.{indexOf, slice}
-use Rattle.bench_lines.specs.Command.{space}
+use Rattle.bytes.specs.Bytes.{slice}
 use Rattle.bench_lines.proofs.command.field_end.Statement.{statement}
 use Rattle.bench_lines.proofs.command.field_end.Tie as tie
 

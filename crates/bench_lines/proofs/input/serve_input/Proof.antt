@@ -1,4 +1,4 @@
--- Nothing is promised of the bench after the input; the loop ends.
+-- Nothing is promised of what the input holds; the loop ends.
 use native.Mathlib.Omega.{arith}
 use borrow.Author.Needs.{needs}
 use Rattle.bench_lines.proofs.input.serve_input.Statement.{statement}
@@ -10,8 +10,8 @@ Inv-loop file session₀ turns₀ more₀ session turns more = Unit {0}
 abbrev μ-loop : tie.MeasureT-loop
 μ-loop file session₀ turns₀ more₀ session turns more = turns
 
-unstarted-requires : tie.Need-unstarted-requires Inv-loop μ-loop
-unstarted-requires c κs = search needs
+begin-requires : tie.Need-begin-requires Inv-loop μ-loop
+begin-requires c κs = search needs
 
 loop-holds : tie.Need-loop-holds Inv-loop μ-loop
 loop-holds c = tt
@@ -19,8 +19,8 @@ loop-holds c = tt
 sub-turns : tie.Need-sub-turns Inv-loop μ-loop
 sub-turns c = omega arith
 
-take-part-requires : tie.Need-take-part-requires Inv-loop μ-loop
-take-part-requires c κs = search needs
+read-part-requires : tie.Need-read-part-requires Inv-loop μ-loop
+read-part-requires c κs = search needs
 
 loop-less : tie.Need-loop-less Inv-loop μ-loop
 loop-less c = omega arith
@@ -43,10 +43,10 @@ serve-input-spec =
     (tie.spec
     Inv-loop
     μ-loop
-    unstarted-requires
+    begin-requires
     loop-holds
     sub-turns
-    take-part-requires
+    read-part-requires
     loop-less
     loop-again
     end-line-requires

@@ -1,7 +1,6 @@
 use borrow.Author.Needs.{needs}
 use mathlib.Core.Path.{_∙_, sym, ap}
 use native.Mathlib.Omega.{arith}
-use lib.ListN.{length, take}
 use lib.Seq.{take-all, length-take-le}
 use Rattle.bench_lines.specs.Line.{mostCells, cellsLine}
 use Rattle.bench_lines.proofs.reply.cells_line.Statement.{statement}

@@ -1,11 +1,8 @@
 use borrow.Author.Needs.{needs}
-use mathlib.Core.Path.{_≡_, sym, ap}
-use mathlib.Core.List.{List, [], _∷_, _++_}
-use Prim.Native.Nat.{ℕ}
+use mathlib.Core.Path.{ap}
+use mathlib.Core.List.{[], _∷_}
 use native.Mathlib.Omega.{arith}
-use lib.ListN.{length, take}
-use Rattle.bench_lines.specs.Line.{newline, partedIn, fieldOf, lineOf, cellsLine}
-use Rattle.io.specs.Counts.{Counts}
+use Rattle.bench_lines.specs.Line.{newline, partedIn, fieldOf, cellsLine}
 use Rattle.cells.specs.Count.{markCount}
 use Rattle.bench_lines.specs.declared.text.Base.the-variants.{Decimal, Hexadecimal}
 use Rattle.bench_lines.proofs.Texts.{append-more, appended-as, parted-length, field-length, closed}

@@ -1,8 +1,6 @@
 use borrow.Author.Needs.{needs}
-use mathlib.Core.Path.{_≡_}
-use mathlib.Core.List.{[], _∷_, _++_}
+use mathlib.Core.List.{[], _∷_}
 use native.Mathlib.Omega.{arith}
-use lib.ListN.{length}
 use Rattle.bench_lines.specs.Line.{newline, partedIn, numberLine}
 use Rattle.bench_lines.specs.declared.text.Base.the-variants.{Decimal}
 use Rattle.bench_lines.proofs.Texts.{append-more, parted-length, closed}

@@ -1,7 +1,7 @@
 use borrow.Author.Needs.{needs}
 use mathlib.Core.Path.{_∙_, ap}
 use native.Mathlib.Omega.{arith}
-use lib.ListN.{length, take}
+use lib.ListN.{length}
 use Rattle.bench_lines.proofs.Texts.{decimal-text, decimal-most, appended-as}
 use Rattle.bench_lines.proofs.text.put_decimal.Statement.{statement}
 use Rattle.bench_lines.proofs.text.put_decimal.Tie as tie

@@ -1,7 +1,7 @@
 use borrow.Author.Needs.{needs}
 use mathlib.Core.Path.{_∙_, ap}
 use native.Mathlib.Omega.{arith}
-use lib.ListN.{length, take}
+use lib.ListN.{length}
 use Rattle.bench_lines.proofs.Texts.{hexadecimal-text, hexadecimal-most, appended-as}
 use Rattle.bench_lines.proofs.text.put_hexadecimal.Statement.{statement}
 use Rattle.bench_lines.proofs.text.put_hexadecimal.Tie as tie

@@ -2,9 +2,8 @@ use borrow.Author.Needs.{needs}
 use mathlib.Core.Path.{sym}
 use native.Mathlib.Omega.{arith}
 use lib.Seq.{length-take-le}
-use lib.ListN.{length}
-use Rattle.bench_lines.proofs.input.write_first.Statement.{statement}
-use Rattle.bench_lines.proofs.input.write_first.Tie as tie
+use Rattle.bench_lines.proofs.output.write_first.Statement.{statement}
+use Rattle.bench_lines.proofs.output.write_first.Tie as tie
 
 array-share-prefix-bytes : tie.Need-array-share-prefix-bytes
 array-share-prefix-bytes c = search needs
