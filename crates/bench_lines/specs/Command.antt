@@ -10,6 +10,7 @@ use Rattle.bench_lines.specs.declared.command.Number.the-variants.{Of, N
 
 -- ---- Bytes, in ASCII
 
+-- A space, and the digits 0 and 9.
 abbrev pub space : ℕ
 space = 32
 
@@ -21,6 +22,7 @@ nineDigit = 57
 
 -- ---- A line's fields: its parts between spaces, one more than there are spaces
 
+-- The last field, or a field and those after it.
 pub data Fields : Type 0 where
   last : List ℕ → Fields
   more : List ℕ → Fields → Fields
@@ -30,12 +32,14 @@ abbrev pub lengthened : ℕ → Fields → Fields
 lengthened b (last f) = last (b ∷ f)
 lengthened b (more f rest) = more (b ∷ f) rest
 
+-- A space ends a field and begins the next.
 unfoldable pub fieldsOf : List ℕ → Fields
 fieldsOf [] = last []
 fieldsOf (b ∷ line) = cond (eqb b space) (more [] (fieldsOf line)) (lengthened b (fieldsOf line))
 
 -- ---- A field's meaning
 
+-- The bytes 0 to 9.
 abbrev pub isDigit : ℕ → Bool
 isDigit b = leb zeroDigit b && leb b nineDigit
 
@@ -60,13 +64,16 @@ letterOf (a ∷ b ∷ bs) = 0
 
 -- ---- The forms: `m`, then `n k`, `s t`, `d t`, then `b t o`
 
+-- A letter alone.
 abbrev pub alone : ℕ → Command
 alone letter = cond (eqb letter 109) Print Unknown
 
+-- A letter and one number.
 abbrev pub withOne : ℕ → Number → Command
 withOne letter (Of v) = cond (eqb letter 110) (Start v) (cond (eqb letter 115) (Step v) (cond (eqb letter 100) (Finish v) Unknown))
 withOne letter Nothing = Unknown
 
+-- A letter and two numbers.
 abbrev pub withTwo : ℕ → Number → Number → Command
 withTwo letter (Of t) (Of o) = cond (eqb letter 98) (Begin t o) Unknown
 withTwo letter (Of t) Nothing = Unknown
@@ -82,6 +89,7 @@ abbrev pub afterLetter : ℕ → Fields → Command
 afterLetter letter (last f) = withOne letter (numberOf f)
 afterLetter letter (more f rest) = afterNumber letter (numberOf f) rest
 
+-- A line begins with its letter.
 abbrev pub commandIn : Fields → Command
 commandIn (last f) = alone (letterOf f)
 commandIn (more f rest) = afterLetter (letterOf f) rest

@@ -36,6 +36,7 @@ abbrev pub fieldOf : Base → ℕ → List ℕ
 fieldOf Decimal n = space ∷ decimal n
 fieldOf Hexadecimal n = space ∷ hexadecimal n
 
+-- A field for each number.
 unfoldable pub partedIn : Base → List ℕ → List ℕ
 partedIn base [] = []
 partedIn base (n ∷ ns) = fieldOf base n ++ partedIn base ns
@@ -44,6 +45,7 @@ partedIn base (n ∷ ns) = fieldOf base n ++ partedIn base ns
 abbrev pub lineOf : ℕ → List ℕ → List ℕ
 lineOf letter fields = letter ∷ (fields ++ (newline ∷ []))
 
+-- A line of numbers in decimal.
 abbrev pub numberLine : ℕ → List ℕ → List ℕ
 numberLine letter numbers = lineOf letter (partedIn Decimal numbers)
 

@@ -16,9 +16,11 @@ pub record Fed : Type 0 where
   pub bench : Bench
   pub line : List ℕ
 
+-- Before the first byte.
 abbrev pub newSession : Fed
 newSession = record { bench = unstartedBench; line = [] }
 
+-- A byte other than 10 belongs to the line.
 abbrev pub keepByte : Fed → ℕ → Fed
 keepByte fed b = record { bench = fed .bench; line = fed .line ++ (b ∷ []) }
 
@@ -26,9 +28,11 @@ keepByte fed b = record { bench = fed .bench; line = fed .line ++ (b ∷ []) }
 abbrev pub endLine : List ℕ → Fed → Fed
 endLine file fed = record { bench = serveOf file (fed .bench) (commandOf (fed .line)) .bench; line = [] }
 
+-- One byte of the input.
 unfoldable pub feedByte : List ℕ → Fed → ℕ → Fed
 feedByte file fed b = cond (eqb b newline) (endLine file fed) (keepByte fed b)
 
+-- The bytes of the input, one after another.
 unfoldable pub feed : List ℕ → Fed → List ℕ → Fed
 feed file fed [] = fed
 feed file fed (b ∷ bs) = feed file (feedByte file fed b) bs

@@ -17,13 +17,13 @@ ghost use Rattle.io.specs.Counts.{Counts};
 ghost use Rattle.bench_lines.specs.Line.{cellsLine};
 ghost use Rattle.bench_lines.specs.Run.{unstartedBench, cellCount, startHeld, startBench, beginReply, beginBench, stepReply, stepHeld, stepBench, runsOn, finishBench, refuseLine, shown, shownCells, actOf, isStart, serveOf, Shows};
 
-// One cell and one record more than the greatest run has, so that a row of nine records can be lent and is refused.
+// As many cells as the greatest run has, and as many records: one more, so that a row of nine can be lent and is refused.
 const MOST_CELLS: usize = 9;
 
 // The greatest ceiling of own steps. After a first step and as many more, an operation has ended or its step is refused.
 const MOST_TURNS: u32 = 512_000;
 
-// Without an accepted start there are 0 tasks.
+// The cells and the records of the run are the first ones. Without an accepted start there are 0 tasks.
 pub struct Bench {
     pub cells: [u64; 9],
     pub row: [Task; 9],
@@ -94,6 +94,7 @@ fn start_held(file: &[u8], cells: [u64; 9], row: [Task; 9], tasks: usize) -> Ope
     }
 }
 
+// An accepted start opens another run; a refused one leaves the present run as it is.
 fn start(file: &[u8], bench: Bench, tasks: u16) -> Served
     ensures { λ r. ⌜ r ≡ startBench (now (file .entry)) bench tasks ⌝ }
 {
@@ -126,6 +127,7 @@ fn start(file: &[u8], bench: Bench, tasks: u16) -> Served
     }
 }
 
+// An accepted begin prints nothing.
 fn begin_reply(answer: BeginAnswer) -> Reply
     ensures { λ r. ⌜ r ≡ beginReply answer ⌝ }
 {
@@ -173,6 +175,7 @@ fn step_held(file: &[u8], cells: [u64; 9], row: [Task; 9], tasks: usize, task: u
     }
 }
 
+// A step that answers running prints nothing.
 fn step_reply(task: u16, answer: Answer) -> Reply
     ensures { λ r. ⌜ r ≡ stepReply task answer ⌝ }
 {
@@ -231,6 +234,7 @@ fn finish(file: &[u8], bench: Bench, task: u16) -> Served
     served
 }
 
+// A line that is not served.
 fn refuse(bench: Bench) -> Served
     ensures { λ r. ⌜ r ≡ refuseLine bench ⌝ }
 {
@@ -240,6 +244,7 @@ fn refuse(bench: Bench) -> Served
     }
 }
 
+// What is printed for a reply.
 fn print(served: Served) -> Printed
     ensures { λ r. ⌜ Shows r (shown served) ⌝ }
 {
