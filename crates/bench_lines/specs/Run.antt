@@ -16,10 +16,10 @@ use Rattle.stepping.specs.declared.call.StartAnswer.{StartAnswer}
 use Rattle.stepping.specs.declared.call.StartAnswer.the-variants as start
 use Rattle.stepping.specs.declared.call.BeginAnswer.{BeginAnswer}
 use Rattle.stepping.specs.declared.call.BeginAnswer.the-variants as begin
-use Rattle.stepping.specs.declared.record.Task.{Task}
+use Rattle.records.specs.declared.record.Task.{Task}
 use Rattle.stepping.specs.Call as call
 use Rattle.stepping.specs.Call.{Started, Begun}
-use Rattle.stepping.specs.Record.{idleTask}
+use Rattle.records.specs.Record.{idleTask}
 use Rattle.drive.specs.First.{startFirst, beginFirst, stepFirst}
 use Rattle.bench_lines.specs.declared.command.Command.{Command}
 use Rattle.bench_lines.specs.declared.command.Command.the-variants as command

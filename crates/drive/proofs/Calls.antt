@@ -4,12 +4,12 @@ use mathlib.Core.List.{List}
 use Prim.Native.Nat.{ℕ, _≤_}
 use lib.ListN.{length, set, List·getD-eq-default}
 use lib.Seq.{set-out}
-use Rattle.stepping.specs.declared.record.Task.{Task}
+use Rattle.records.specs.declared.record.Task.{Task}
 use Rattle.stepping.specs.declared.access.Answer.{Answer}
 use Rattle.stepping.specs.declared.call.BeginAnswer.{BeginAnswer}
 use Rattle.stepping.specs.declared.call.Begin.{Begin}
 use Rattle.stepping.specs.declared.call.Step.{Step}
-use Rattle.stepping.specs.Record.{idleTask}
+use Rattle.records.specs.Record.{idleTask}
 use Rattle.stepping.specs.Call.{taskAt, beginTask, Begun, beginOf, Stepped, stepTask, Served, stepOf}
 
 -- A task past the row's end has an idle record.

@@ -14,7 +14,7 @@ use Rattle.cells.specs.declared.ceiling.Ceiling.the-variants as ceiling
 use Rattle.table.specs.declared.Checked.{Checked}
 use Rattle.table.specs.declared.Checked.the-variants as table
 use Rattle.table.specs.Check.{checkOf}
-use Rattle.stepping.specs.declared.record.Task.{Task}
+use Rattle.records.specs.declared.record.Task.{Task}
 use Rattle.stepping.specs.declared.access.Answer.{Answer}
 use Rattle.stepping.specs.declared.access.Answer.the-variants as step
 use Rattle.stepping.specs.declared.call.StartAnswer.{StartAnswer}

@@ -21,9 +21,9 @@ use denote.ArrayMemory.{array-apart, array-whole}
 use denote.Index.{place, row, whole-in, whole-out}
 use denote.Steps.{owned, peeks, nothing, only}
 use denote.Struct.Laws as LL
-use Rattle.stepping.specs.declared.record.Task.{Task}
-use Rattle.stepping.proofs.record.Task as T
-use Rattle.stepping.proofs.record.Task.Laws as T′
+use Rattle.records.specs.declared.record.Task.{Task}
+use Rattle.records.proofs.record.Task as T
+use Rattle.records.proofs.record.Task.Laws as T′
 
 -- The machine value of nine records.
 abbrev pub machs : List Task → Val

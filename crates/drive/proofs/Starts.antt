@@ -17,8 +17,8 @@ use Rattle.stepping.specs.declared.call.Admitted.the-variants as admitted
 use Rattle.stepping.specs.declared.call.Start.{Start}
 use Rattle.stepping.specs.declared.call.StartAnswer.{StartAnswer}
 use Rattle.stepping.specs.declared.call.StartAnswer.the-variants as start
-use Rattle.stepping.specs.declared.record.Task.{Task}
-use Rattle.stepping.specs.Record.{idleTask}
+use Rattle.records.specs.declared.record.Task.{Task}
+use Rattle.records.specs.Record.{idleTask}
 use Rattle.stepping.specs.Call.{idleRow, Started, withRow, startIn, startOf, withCells, admitStartOf}
 use Rattle.stepping.proofs.Admission.{admitted-ranges}
 use Rattle.drive.specs.Start.{startedCells, idleCount}

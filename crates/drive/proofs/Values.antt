@@ -16,9 +16,9 @@ use denote.Ref.{RefT}
 use denote.Slice.{sliceVal, ShrSlice}
 use denote.Steps.{only}
 use denote.Struct.Laws as LL
-use Rattle.stepping.specs.declared.record.Task.{Task}
-use Rattle.stepping.proofs.record.Task as T
-use Rattle.stepping.proofs.record.Task.Laws as T′
+use Rattle.records.specs.declared.record.Task.{Task}
+use Rattle.records.proofs.record.Task as T
+use Rattle.records.proofs.record.Task.Laws as T′
 
 -- The machine value of a record.
 abbrev pub mach : Task → Val

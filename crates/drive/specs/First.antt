@@ -4,7 +4,7 @@ use mathlib.Core.List.{List, _++_}
 use Prim.Native.Nat.{ℕ}
 use lib.Dec.{leb}
 use lib.ListN.{take, drop}
-use Rattle.stepping.specs.declared.record.Task.{Task}
+use Rattle.records.specs.declared.record.Task.{Task}
 use Rattle.stepping.specs.Call.{Started, startOf, Begun, beginOf, Served, stepOf}
 
 -- How many of the records are lent for a number of tasks: as many, but at most nine, which is refused as a longer row is.

@@ -1,8 +1,8 @@
 // The calls for a holder of nine records by value: the first of them are lent as a row.
+use records::record::Task;
 use stepping::access::Answer;
 use stepping::call::BeginAnswer;
 use stepping::call::StartAnswer;
-use stepping::record::Task;
 ghost use mathlib.Core.Path.{_≡_};
 ghost use Rattle.drive.specs.First.{firstCount, startFirst, beginFirst, stepFirst};
 

@@ -1,17 +1,17 @@
 // The calls on a lent row of task records: start fills it, begin and step take one record out and put it back.
 pub mod first;
 
+use records::record;
+use records::record::Task;
 use stepping::access::Answer;
 use stepping::call;
 use stepping::call::BeginAnswer;
 use stepping::call::StartAnswer;
-use stepping::record;
-use stepping::record::Task;
 ghost use mathlib.Core.Path.{_≡_};
 ghost use mathlib.Core.List.{_++_};
 ghost use Prim.Native.Nat.{_<_, _≤_};
 ghost use lib.ListN.{length, drop};
-ghost use Rattle.stepping.specs.Record.{idleTask};
+ghost use Rattle.records.specs.Record.{idleTask};
 ghost use Rattle.stepping.specs.Call.{idleRow, admitStartOf, startOf, beginTask, beginOf, stepTask, stepOf};
 ghost use Rattle.drive.specs.Start.{idleCount, startedCells};
 

@@ -9,11 +9,11 @@ use Rattle.cells.specs.declared.announcement.Announcement.{Announcement}
 use Rattle.cells.specs.declared.announcement.Announcement.the-variants as content
 use Rattle.cells.proofs.announcement.Announcement as AnnouncementType
 use Rattle.table.specs.declared.Shape.{Shape}
-use Rattle.stepping.specs.declared.record.Task.{Task}
-use Rattle.stepping.specs.declared.phase.Phase.{Phase}
-use Rattle.stepping.specs.declared.phase.Phase.the-variants.{Idle, ReadOnly, Announce, Poll, LoadHead, LinkHead, LoadPriority, LoadOwn, LoadExit, LinkExit, ClearExit, ReleaseExit, Retract, ClearHead, ReloadClear, Apply, ReloadApply, LoadHelped, LinkHelped, Validate, HandOver, ReloadHandOver, Release, ReloadRelease}
+use Rattle.records.specs.declared.record.Task.{Task}
+use Rattle.records.specs.declared.phase.Phase.{Phase}
+use Rattle.records.specs.declared.phase.Phase.the-variants.{Idle, ReadOnly, Announce, Poll, LoadHead, LinkHead, LoadPriority, LoadOwn, LoadExit, LinkExit, ClearExit, ReleaseExit, Retract, ClearHead, ReloadClear, Apply, ReloadApply, LoadHelped, LinkHelped, Validate, HandOver, ReloadHandOver, Release, ReloadRelease}
 use Rattle.stepping.specs.Step.{withBoth, afterLinkHelped, usedInRange}
-use Rattle.stepping.proofs.phase.Phase as PhaseType
+use Rattle.records.proofs.phase.Phase as PhaseType
 
 -- An announcement that is no operation ends the help.
 pub no-operation : (h j a : ℕ) (found : Announcement) → OneOf (0 ∷ 2 ∷ []) (tagOf AnnouncementType.the-type found) → withBoth (Release j) h a ≡ afterLinkHelped h j a found

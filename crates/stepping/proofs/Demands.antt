@@ -26,7 +26,7 @@ use Rattle.machine.proofs.Formed.{formed-run}
 use Rattle.machine.proofs.Update.{clash}
 use Rattle.machine.proofs.WaitFree.{bound-ceiling, pending-steps}
 use Rattle.machine.specs.Kind.{off}
-use Rattle.stepping.specs.declared.record.Task.{Task}
+use Rattle.records.specs.declared.record.Task.{Task}
 use Rattle.stepping.specs.declared.call.StartAnswer.the-variants.{Started}
 use Rattle.stepping.specs.Call.{startOf, taskAt}
 use Rattle.stepping.specs.Encoding.{ObjectTable, objectOf, encodeCells}

@@ -1,5 +1,4 @@
 pub mod Lists
-pub mod Phases
 pub mod Defaults
 pub mod Admission
 pub mod Ready

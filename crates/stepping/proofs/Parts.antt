@@ -8,9 +8,9 @@ use lib.ListN.{getD}
 use Rattle.refusal.specs.declared.Refusal.{Refusal}
 use Rattle.refusal.specs.declared.Refusal.the-variants as cause
 use Rattle.table.specs.declared.Shape.{Shape}
-use Rattle.stepping.specs.declared.record.Task.{Task}
-use Rattle.stepping.specs.declared.phase.Phase.{Phase}
-use Rattle.stepping.specs.declared.phase.PhaseRead.the-variants.{Known}
+use Rattle.records.specs.declared.record.Task.{Task}
+use Rattle.records.specs.declared.phase.Phase.{Phase}
+use Rattle.records.specs.declared.phase.PhaseRead.the-variants.{Known}
 use Rattle.stepping.specs.declared.access.Access.{Access}
 use Rattle.stepping.specs.declared.access.Found.{Found}
 use Rattle.stepping.specs.declared.access.Next.{Next}

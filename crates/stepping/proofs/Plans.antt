@@ -21,7 +21,7 @@ use Rattle.machine.specs.Kind.{kind, off}
 use Rattle.machine.specs.Form.{HeadFormed, MemoryFormed, PhaseFormed, OperationFormed}
 use Rattle.machine.proofs.Formed.{state-good}
 use Rattle.machine.proofs.Update.{clash}
-use Rattle.stepping.specs.declared.record.Task.{Task}
+use Rattle.records.specs.declared.record.Task.{Task}
 use Rattle.stepping.specs.declared.access.Access.the-variants.{Swap}
 use Rattle.stepping.specs.Step.{stateIn, responseIn, named, clearedWord, appliedWord, operationWord, responseWord, planOf, touched, usedInRange}
 use Rattle.stepping.specs.Encoding.{ObjectTable, objectOf, encodeHead, encodeAnnouncement, encodeCells, kept, encodeTask}

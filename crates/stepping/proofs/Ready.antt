@@ -9,15 +9,15 @@ use lib.Dec.{eqb, ltb}
 use Rattle.cells.proofs.Tests.{and-left, and-right}
 use Rattle.cells.specs.Form.{headInForm, announcementInForm}
 use Rattle.table.specs.declared.Shape.{Shape}
-use Rattle.stepping.specs.declared.record.Task.{Task}
-use Rattle.stepping.specs.declared.phase.Phase.{Phase}
-use Rattle.stepping.specs.declared.phase.Phase.the-variants.{Idle, ReadOnly, Announce, Poll, LoadHead, LinkHead, LoadPriority, LoadOwn, LoadExit, LinkExit, ClearExit, ReleaseExit, Retract, ClearHead, ReloadClear, Apply, ReloadApply, LoadHelped, LinkHelped, Validate, HandOver, ReloadHandOver, Release, ReloadRelease}
-use Rattle.stepping.specs.declared.phase.PhaseRead.{PhaseRead}
-use Rattle.stepping.specs.declared.phase.PhaseRead.the-variants.{Known, Refused}
-use Rattle.stepping.specs.Phase.{phaseOf}
-use Rattle.stepping.specs.Record.{idleInForm, namesTask, payloadInForm, pendingInForm, recordInForm, inForm, readRecord}
+use Rattle.records.specs.declared.record.Task.{Task}
+use Rattle.records.specs.declared.phase.Phase.{Phase}
+use Rattle.records.specs.declared.phase.Phase.the-variants.{Idle, ReadOnly, Announce, Poll, LoadHead, LinkHead, LoadPriority, LoadOwn, LoadExit, LinkExit, ClearExit, ReleaseExit, Retract, ClearHead, ReloadClear, Apply, ReloadApply, LoadHelped, LinkHelped, Validate, HandOver, ReloadHandOver, Release, ReloadRelease}
+use Rattle.records.specs.declared.phase.PhaseRead.{PhaseRead}
+use Rattle.records.specs.declared.phase.PhaseRead.the-variants.{Known, Refused}
+use Rattle.records.specs.Phase.{phaseOf}
+use Rattle.records.specs.Record.{idleInForm, namesTask, payloadInForm, pendingInForm, recordInForm, inForm, readRecord}
 use Rattle.stepping.specs.Step.{planOf, touched}
-use Rattle.stepping.proofs.Phases.{WorksBelow, works}
+use Rattle.records.proofs.Phases.{WorksBelow, works}
 
 -- A record is read as a phase only if it is in form and its number is that phase's.
 parts : (fits : Bool) (read : PhaseRead) (f : Phase) → inForm fits read ≡ Known f → (fits ≡ true) × (read ≡ Known f)

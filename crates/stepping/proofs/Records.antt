@@ -20,13 +20,13 @@ use Rattle.machine.specs.Kind.{Kind, Off, Reading, Opening, Looping, Exiting, R
 use Rattle.machine.specs.Form.{HeadFormed, AnnouncementFormed, PhaseFormed, OperationFormed, TaskFormed}
 use Rattle.machine.proofs.Update.{clash}
 use Rattle.machine.proofs.Calls.{off-idle}
-use Rattle.stepping.specs.declared.phase.Phase.{Phase}
-use Rattle.stepping.specs.declared.phase.Phase.the-variants as phase
-use Rattle.stepping.specs.declared.phase.PhaseRead.the-variants.{Known}
-use Rattle.stepping.specs.Phase.{phaseNumber, phaseOf}
-use Rattle.stepping.specs.Record.{idleTask, idleInForm, namesTask, payloadInForm, pendingInForm, recordInForm, readRecord}
+use Rattle.records.specs.declared.phase.Phase.{Phase}
+use Rattle.records.specs.declared.phase.Phase.the-variants as phase
+use Rattle.records.specs.declared.phase.PhaseRead.the-variants.{Known}
+use Rattle.records.specs.Phase.{phaseNumber, phaseOf}
+use Rattle.records.specs.Record.{idleTask, idleInForm, namesTask, payloadInForm, pendingInForm, recordInForm, readRecord}
 use Rattle.stepping.specs.Encoding.{ObjectTable, objectOf, encodeHead, encodeAnnouncement, Kept, keep, kept, encodeTask}
-use Rattle.stepping.proofs.Phases.{WorksBelow, known}
+use Rattle.records.proofs.Phases.{WorksBelow, known}
 use Rattle.stepping.proofs.EncodedCells.{head-in-form, announcement-in-form}
 
 -- What a record has to keep of a phase of a pending operation.

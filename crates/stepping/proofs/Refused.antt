@@ -11,10 +11,10 @@ use Rattle.refusal.specs.declared.Refusal.the-variants as cause
 use Rattle.table.specs.declared.Shape.{Shape}
 use Rattle.table.specs.Check.{checkOf}
 use Rattle.table.specs.Entries.{operationInRange}
-use Rattle.stepping.specs.declared.record.Task.{Task}
-use Rattle.stepping.specs.declared.phase.Phase.{Phase}
-use Rattle.stepping.specs.declared.phase.PhaseRead.{PhaseRead}
-use Rattle.stepping.specs.declared.phase.PhaseRead.the-variants as record-phase
+use Rattle.records.specs.declared.record.Task.{Task}
+use Rattle.records.specs.declared.phase.Phase.{Phase}
+use Rattle.records.specs.declared.phase.PhaseRead.{PhaseRead}
+use Rattle.records.specs.declared.phase.PhaseRead.the-variants as record-phase
 use Rattle.stepping.specs.declared.access.Access.{Access}
 use Rattle.stepping.specs.declared.access.Next.{Next}
 use Rattle.stepping.specs.declared.access.Next.the-variants.{Go, Turn, End}
@@ -24,7 +24,7 @@ use Rattle.stepping.specs.declared.call.Admitted.the-variants as admitte
 use Rattle.stepping.specs.declared.call.StartAnswer.the-variants as start
 use Rattle.stepping.specs.declared.call.BeginAnswer.the-variants as begin
 use Rattle.stepping.specs.declared.call.Begin.{Begin}
-use Rattle.stepping.specs.Record.{idleTask, readRecord}
+use Rattle.records.specs.Record.{idleTask, readRecord}
 use Rattle.stepping.specs.Step.{planOf, touched, foundOf, cellInForm, usedInRange, nextOf, answerOf}
 use Rattle.stepping.specs.Call.{withRow, admitOf, Started, refuseStart, startIn, startOf, refuseBegin, beginFrom, beginIn, beginTask, Stepped, refuseStep, touch, stepFrom, stepIn, stepTask, taskAt, beginOf, stepOf}
 use Rattle.stepping.proofs.Lists.{set-held}

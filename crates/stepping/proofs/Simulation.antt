@@ -21,14 +21,14 @@ use Rattle.machine.specs.Machine.{plan, result, perform, advance}
 use Rattle.machine.specs.Kind.{kind, off}
 use Rattle.machine.specs.Run.{Config, Call, Begin, Step, Event, firstPhase, unserved, outcomeOfStep, stepped, step, begun, begin, serve, run, history}
 use Rattle.machine.specs.Form.{Formed}
-use Rattle.stepping.specs.declared.record.Task.{Task}
-use Rattle.stepping.specs.declared.phase.Phase.the-variants as phase
+use Rattle.records.specs.declared.record.Task.{Task}
+use Rattle.records.specs.declared.phase.Phase.the-variants as phase
 use Rattle.stepping.specs.declared.access.Next.{Next}
 use Rattle.stepping.specs.declared.call.Begin as declared
 use Rattle.stepping.specs.declared.call.BeginAnswer.the-variants as opening
 use Rattle.stepping.specs.declared.call.Admitted.the-variants as admitted
-use Rattle.stepping.specs.Phase.{phaseNumber}
-use Rattle.stepping.specs.Record.{idleTask, readRecord}
+use Rattle.records.specs.Phase.{phaseNumber}
+use Rattle.records.specs.Record.{idleTask, readRecord}
 use Rattle.stepping.specs.Step.{nextOf, advanceOf, answerOf}
 use Rattle.stepping.specs.Call.{admitOf, Stepped, refuseStep, stepFrom, stepTask, stepOf, begunTask, refuseBegin, beginFrom, beginTask, beginOf, taskAt}
 use Rattle.stepping.specs.Encoding.{ObjectTable, objectOf, encodeCells, kept, encodeTask, encodeRow, stepAnswer, beginAnswer}

@@ -20,7 +20,7 @@ use Rattle.table.specs.Check.{checkOf}
 use Rattle.machine.specs.Memory.{image}
 use Rattle.machine.specs.Run as run
 use Rattle.machine.specs.Run.{start}
-use Rattle.stepping.specs.declared.record.Task.{Task}
+use Rattle.records.specs.declared.record.Task.{Task}
 use Rattle.stepping.specs.declared.call.StartAnswer.the-variants as answer
 use Rattle.stepping.specs.Call.{withRow, idleRow, startIn, startOf}
 use Rattle.stepping.specs.Encoding.{tabulate, encodeCells, encodeTask, encodeRow}

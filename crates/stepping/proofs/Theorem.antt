@@ -14,7 +14,7 @@ use Rattle.machine.specs.History.{Pends, pending}
 use Rattle.machine.specs.Demand.{Shown, Demand}
 use Rattle.machine.proofs.OwnSteps.{own-record, next-step}
 use Rattle.machine.proofs.Pending.{pending-is}
-use Rattle.stepping.specs.declared.record.Task.{Task}
+use Rattle.records.specs.declared.record.Task.{Task}
 use Rattle.stepping.specs.Statement.{Accepted, Demands, Refusals, Independent, Endings, Ends, accessOf, recordAfter, objectIn, shown}
 use Rattle.stepping.proofs.Accesses.{encodeAccess}
 use Rattle.stepping.proofs.Demands.{demands, refused-started, history-started, answer-started, access-started, good}

@@ -18,11 +18,11 @@ use Rattle.table.specs.declared.Checked.the-variants as table
 use Rattle.table.specs.Layout.{layoutOf}
 use Rattle.table.specs.Check.{checkOf}
 use Rattle.table.specs.Entries.{operationInRange, changing}
-use Rattle.stepping.specs.declared.record.Task.{Task}
-use Rattle.stepping.specs.declared.phase.Phase.{Phase}
-use Rattle.stepping.specs.declared.phase.Phase.the-variants as phase
-use Rattle.stepping.specs.declared.phase.PhaseRead.{PhaseRead}
-use Rattle.stepping.specs.declared.phase.PhaseRead.the-variants as record-phase
+use Rattle.records.specs.declared.record.Task.{Task}
+use Rattle.records.specs.declared.phase.Phase.{Phase}
+use Rattle.records.specs.declared.phase.Phase.the-variants as phase
+use Rattle.records.specs.declared.phase.PhaseRead.{PhaseRead}
+use Rattle.records.specs.declared.phase.PhaseRead.the-variants as record-phase
 use Rattle.stepping.specs.declared.access.Access.{Access}
 use Rattle.stepping.specs.declared.access.Answer.{Answer}
 use Rattle.stepping.specs.declared.access.Answer.the-variants as step
@@ -34,8 +34,8 @@ use Rattle.stepping.specs.declared.call.StartAnswer.the-variants as star
 use Rattle.stepping.specs.declared.call.BeginAnswer.{BeginAnswer}
 use Rattle.stepping.specs.declared.call.BeginAnswer.the-variants as begin
 use Rattle.stepping.specs.declared.call.Begin.{Begin}
-use Rattle.stepping.specs.Phase.{phaseNumber}
-use Rattle.stepping.specs.Record.{idleTask, readRecord}
+use Rattle.records.specs.Phase.{phaseNumber}
+use Rattle.records.specs.Record.{idleTask, readRecord}
 use Rattle.stepping.specs.Step.{planOf, touched, foundOf, performOf, cellInForm, usedInRange, nextOf, advanceOf, answerOf}
 
 -- ---- The answers' numbers: 0 if the call is accepted

@@ -1,5 +1,3 @@
-pub mod Phase
-pub mod Record
 pub mod Step
 pub mod Call
 pub mod Encoding

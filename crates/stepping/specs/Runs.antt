@@ -3,7 +3,7 @@ use mathlib.Core.List.{List, [], _∷_}
 use Prim.Native.Nat.{ℕ}
 use Rattle.machine.specs.Run.{Config, Call, Begin, Step, Answer, Served, Event}
 use Rattle.machine.specs.Demand.{Shown}
-use Rattle.stepping.specs.declared.record.Task.{Task}
+use Rattle.records.specs.declared.record.Task.{Task}
 use Rattle.stepping.specs.Call.{startOf, beginOf, stepOf}
 use Rattle.stepping.specs.Encoding.{encodeCells, encodeRow, beginAnswer, stepAnswer}
 

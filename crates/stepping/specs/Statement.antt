@@ -16,15 +16,15 @@ use Rattle.machine.specs.Object.{Object}
 use Rattle.machine.specs.Run.{Call, Step, Answer, Ended, Refused}
 use Rattle.machine.specs.History.{Pends, pending, Rest}
 use Rattle.machine.specs.Demand.{Shown, Demand}
-use Rattle.stepping.specs.declared.record.Task.{Task}
-use Rattle.stepping.specs.declared.phase.PhaseRead.{PhaseRead}
-use Rattle.stepping.specs.declared.phase.PhaseRead.the-variants as record-phase
+use Rattle.records.specs.declared.record.Task.{Task}
+use Rattle.records.specs.declared.phase.PhaseRead.{PhaseRead}
+use Rattle.records.specs.declared.phase.PhaseRead.the-variants as record-phase
 use Rattle.stepping.specs.declared.access.Access.{Access}
 use Rattle.stepping.specs.declared.access.Access.the-variants.{Read, Write}
 use Rattle.stepping.specs.declared.call.Admitted.{Admitted}
 use Rattle.stepping.specs.declared.call.Admitted.the-variants as admitted
 use Rattle.stepping.specs.declared.call.StartAnswer.the-variants.{Started}
-use Rattle.stepping.specs.Record.{readRecord}
+use Rattle.records.specs.Record.{readRecord}
 use Rattle.stepping.specs.Step.{planOf}
 use Rattle.stepping.specs.Call.{admitOf, startOf, taskAt}
 use Rattle.stepping.specs.Encoding.{ObjectTable, objectOf}

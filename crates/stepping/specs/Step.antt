@@ -12,9 +12,9 @@ use Rattle.cells.specs.declared.announcement.Announcement.{Announcement}
 use Rattle.cells.specs.declared.announcement.Announcement.the-variants as content
 use Rattle.table.specs.declared.Shape.{Shape}
 use Rattle.table.specs.Entries.{entryOf, entryInRange}
-use Rattle.stepping.specs.declared.record.Task.{Task}
-use Rattle.stepping.specs.declared.phase.Phase.{Phase}
-use Rattle.stepping.specs.declared.phase.Phase.the-variants.{Idle, ReadOnly, Announce, Poll, LoadHead, LinkHead, LoadPriority, LoadOwn, LoadExit, LinkExit, ClearExit, ReleaseExit, Retract, ClearHead, ReloadClear, Apply, ReloadApply, LoadHelped, LinkHelped, Validate, HandOver, ReloadHandOver, Release, ReloadRelease}
+use Rattle.records.specs.declared.record.Task.{Task}
+use Rattle.records.specs.declared.phase.Phase.{Phase}
+use Rattle.records.specs.declared.phase.Phase.the-variants.{Idle, ReadOnly, Announce, Poll, LoadHead, LinkHead, LoadPriority, LoadOwn, LoadExit, LinkExit, ClearExit, ReleaseExit, Retract, ClearHead, ReloadClear, Apply, ReloadApply, LoadHelped, LinkHelped, Validate, HandOver, ReloadHandOver, Release, ReloadRelease}
 use Rattle.stepping.specs.declared.access.Access.{Access}
 use Rattle.stepping.specs.declared.access.Access.the-variants.{Read, Write, Swap}
 use Rattle.stepping.specs.declared.access.Found.{Found}
@@ -23,8 +23,8 @@ use Rattle.stepping.specs.declared.access.Next.{Next}
 use Rattle.stepping.specs.declared.access.Next.the-variants.{Go, Turn, End}
 use Rattle.stepping.specs.declared.access.Answer.{Answer}
 use Rattle.stepping.specs.declared.access.Answer.the-variants.{Running, Ended}
-use Rattle.stepping.specs.Phase.{phaseNumber}
-use Rattle.stepping.specs.Record.{idleTask}
+use Rattle.records.specs.Phase.{phaseNumber}
+use Rattle.records.specs.Record.{idleTask}
 
 -- ---- Words that a step writes
 

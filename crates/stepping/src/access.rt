@@ -1,5 +1,5 @@
 // The one access of a step, what it gives back, and what a step leads to.
-use crate::phase::Phase;
+use records::phase::Phase;
 use refusal::Refusal;
 
 // An access to one cell, with the word compared with and the word written.

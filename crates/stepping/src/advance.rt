@@ -2,13 +2,13 @@
 use crate::access::Answer;
 use crate::access::Next;
 use crate::call::Step;
-use crate::phase;
-use crate::phase::Phase;
-use crate::record;
-use crate::record::Task;
+use records::phase;
+use records::phase::Phase;
+use records::record;
+use records::record::Task;
 ghost use mathlib.Core.Path.{_≡_};
 ghost use Prim.Native.Nat.{_+_, _%_, _<_};
-ghost use Rattle.stepping.specs.Phase.{phaseNumber};
+ghost use Rattle.records.specs.Phase.{phaseNumber};
 ghost use Rattle.stepping.specs.Step.{advanceOf, answerOf};
 
 // The task after a task, in turn.

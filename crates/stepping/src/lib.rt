@@ -5,7 +5,5 @@ mod advance;
 pub mod call;
 mod next;
 mod perform;
-pub mod phase;
 mod plan;
-pub mod record;
 mod words;

@@ -1,14 +1,14 @@
 // What a step leads to. It follows from the table, the task's number, its record and what the access gave back.
 use crate::access::Found;
 use crate::access::Next;
-use crate::phase::Phase;
-use crate::record::Task;
 use crate::words;
 use cells::announcement;
 use cells::announcement::Announcement;
 use cells::head;
 use cells::head::Head;
 use cells::marks;
+use records::phase::Phase;
+use records::record::Task;
 use table::Shape;
 ghost use mathlib.Core.Path.{_≡_};
 ghost use mathlib.Core.Bool.{cond};

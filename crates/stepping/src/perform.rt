@@ -1,11 +1,11 @@
 // The access of a step: the cell that it touches, the tests of cell and entry, and the access itself.
 use crate::access::Access;
 use crate::access::Found;
-use crate::phase::Phase;
-use crate::record::Task;
 use crate::words;
 use cells::form;
 use cells::head;
+use records::phase::Phase;
+use records::record::Task;
 use table::Shape;
 ghost use mathlib.Core.Path.{_≡_};
 ghost use Prim.Native.Nat.{_<_};

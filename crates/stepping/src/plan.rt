@@ -1,10 +1,10 @@
 // The access of a task's next step. It follows from the table, the task's number and its record, before a cell is looked
 // at.
 use crate::access::Access;
-use crate::phase::Phase;
-use crate::record::Task;
 use crate::words;
 use cells::marks;
+use records::phase::Phase;
+use records::record::Task;
 use table::Shape;
 ghost use mathlib.Core.Path.{_≡_};
 ghost use Prim.Native.Nat.{_+_, _<_};

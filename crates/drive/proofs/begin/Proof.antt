@@ -39,12 +39,12 @@ use denote.Triple.Table.{entered, cited}
 use denote.Triple.Walked.{says, Stays, gave-slice, stay-none, stay-none-slice, walkOf, AllGo, goes-none, goes-none-slice, goes-gave-slice, Walks, ends-at, walked, walk-meets}
 use denote.Exit.{yes}
 use Rattle.drive.proofs.Values.{slice, OwnFile}
-use Rattle.stepping.specs.declared.record.Task.{Task}
-use Rattle.stepping.proofs.record.Task as T
+use Rattle.records.specs.declared.record.Task.{Task}
+use Rattle.records.proofs.record.Task as T
 use Rattle.stepping.specs.declared.call.BeginAnswer.{BeginAnswer}
 use Rattle.stepping.proofs.call.BeginAnswer as N
 use Rattle.stepping.proofs.call.BeginAnswer.Laws as N′
-use Rattle.stepping.specs.Record.{idleTask}
+use Rattle.records.specs.Record.{idleTask}
 use Rattle.stepping.specs.Call.{beginTask}
 use Rattle.drive.proofs.Calls.{BeginSaid, begin-past}
 use Rattle.drive.proofs.begin_past as past-end

@@ -45,16 +45,16 @@ use denote.Triple.Walked.{says, needs, Stays, stay-slice, stay-none, stay-none-s
 use denote.Exit.{yes}
 use Rattle.drive.proofs.Values.{mach, slice, OwnFile}
 use Rattle.drive.proofs.TaskCalls.{BeginCall, BeginAnswered, begin-answered, begin-args, to-begin, goes-begin, begin-mach, to-begin-answer, goes-begin-answer}
-use Rattle.stepping.specs.declared.record.Task.{Task}
-use Rattle.stepping.proofs.record.Task as T
-use Rattle.stepping.proofs.record.Task.Laws as T′
+use Rattle.records.specs.declared.record.Task.{Task}
+use Rattle.records.proofs.record.Task as T
+use Rattle.records.proofs.record.Task.Laws as T′
 use Rattle.stepping.specs.declared.call.BeginAnswer.{BeginAnswer}
 use Rattle.stepping.proofs.call.BeginAnswer as N
 use Rattle.stepping.proofs.call.BeginAnswer.Laws as N′
 use Rattle.stepping.specs.declared.call.Begin.{Begin}
 use Rattle.stepping.proofs.call.Begin as O
 use Rattle.stepping.proofs.call.Begin.Laws as O′
-use Rattle.stepping.specs.Record.{idleTask}
+use Rattle.records.specs.Record.{idleTask}
 use Rattle.stepping.specs.Call.{beginTask}
 use Rattle.drive.proofs.Calls.{BeginSaid, begin-inside}
 use Rattle.stepping.proofs.call.begin_task as core

@@ -6,7 +6,7 @@ use Rattle.drive.proofs.begin_past.Tie as tie
 use Rattle.drive.proofs.begin_past.Reads as reads
 use Rattle.drive.proofs.begin_past.Lts as lts
 use Rattle.stepping.proofs.call.begin_task.Reads as begin-task-reads
-use Rattle.stepping.proofs.record.idle_task.Reads as idle-task-reads
+use Rattle.records.proofs.record.idle_task.Reads as idle-task-reads
 
 idle-task-requires : tie.Need-idle-task-requires
 idle-task-requires c κs = search needs

@@ -44,9 +44,9 @@ use denote.Triple.Walked.{says, Stays, stay-ref, stay-none, stay-none-slice, wal
 use denote.Exit.{yes}
 use Rattle.drive.proofs.Values.{mach, slice, OwnFile}
 use Rattle.drive.proofs.TaskCalls.{BeginCall, BeginAnswered, begin-answered, begin-args, to-begin, goes-begin, begin-mach, to-begin-answer, goes-begin-answer}
-use Rattle.stepping.specs.declared.record.Task.{Task}
-use Rattle.stepping.proofs.record.Task as T
-use Rattle.stepping.proofs.record.Task.Laws as T′
+use Rattle.records.specs.declared.record.Task.{Task}
+use Rattle.records.proofs.record.Task as T
+use Rattle.records.proofs.record.Task.Laws as T′
 use Rattle.stepping.specs.declared.call.BeginAnswer.{BeginAnswer}
 use Rattle.stepping.proofs.call.BeginAnswer as N
 use Rattle.stepping.proofs.call.BeginAnswer.Laws as N′

@@ -49,10 +49,10 @@ use denote.Triple.Table.{entered, cited}
 use denote.Triple.Walked.{says, needs, Stays, stay-slice, stay-none, walkOf, AllGo, goes-none, goes-slice, Walks, ends-at, walked, walk-meets}
 use denote.Exit.{yes}
 use Rattle.drive.proofs.Values.{mach, decide}
-use Rattle.stepping.specs.declared.record.Task.{Task}
-use Rattle.stepping.proofs.record.Task as T
-use Rattle.stepping.proofs.record.Task.Laws as T′
-use Rattle.stepping.specs.Record.{idleTask}
+use Rattle.records.specs.declared.record.Task.{Task}
+use Rattle.records.proofs.record.Task as T
+use Rattle.records.proofs.record.Task.Laws as T′
+use Rattle.records.specs.Record.{idleTask}
 use Rattle.drive.proofs.Starts.{filledTo, filled-none, filled-more}
 use Rattle.drive.proofs.idle_at as idle
 use Rattle.drive.proofs.idle_at.Symbol as idle-def

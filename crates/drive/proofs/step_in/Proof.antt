@@ -45,16 +45,16 @@ use denote.Triple.Walked.{says, needs, Stays, stay-slice, gave-slice, stay-none,
 use denote.Exit.{yes}
 use Rattle.drive.proofs.Values.{mach, slice, OwnFile}
 use Rattle.drive.proofs.TaskCalls.{StepCall, StepAnswered, step-answered, step-args, to-step, goes-step, step-mach, to-step-answer, goes-step-answer}
-use Rattle.stepping.specs.declared.record.Task.{Task}
-use Rattle.stepping.proofs.record.Task as T
-use Rattle.stepping.proofs.record.Task.Laws as T′
+use Rattle.records.specs.declared.record.Task.{Task}
+use Rattle.records.proofs.record.Task as T
+use Rattle.records.proofs.record.Task.Laws as T′
 use Rattle.stepping.specs.declared.access.Answer.{Answer}
 use Rattle.stepping.proofs.access.Answer as N
 use Rattle.stepping.proofs.access.Answer.Laws as N′
 use Rattle.stepping.specs.declared.call.Step.{Step}
 use Rattle.stepping.proofs.call.Step as O
 use Rattle.stepping.proofs.call.Step.Laws as O′
-use Rattle.stepping.specs.Record.{idleTask}
+use Rattle.records.specs.Record.{idleTask}
 use Rattle.drive.proofs.Calls.{StepSaid, StepTaskSaid, step-inside}
 use Rattle.stepping.proofs.call.step_task as core
 use Rattle.stepping.proofs.call.step_task.Symbol as core-def

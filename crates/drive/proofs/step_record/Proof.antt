@@ -44,9 +44,9 @@ use denote.Triple.Walked.{says, Stays, stay-ref, gave-slice, stay-none, stay-non
 use denote.Exit.{yes}
 use Rattle.drive.proofs.Values.{mach, slice, OwnFile}
 use Rattle.drive.proofs.TaskCalls.{StepCall, StepAnswered, step-answered, step-args, to-step, goes-step, step-mach, to-step-answer, goes-step-answer}
-use Rattle.stepping.specs.declared.record.Task.{Task}
-use Rattle.stepping.proofs.record.Task as T
-use Rattle.stepping.proofs.record.Task.Laws as T′
+use Rattle.records.specs.declared.record.Task.{Task}
+use Rattle.records.proofs.record.Task as T
+use Rattle.records.proofs.record.Task.Laws as T′
 use Rattle.stepping.specs.declared.access.Answer.{Answer}
 use Rattle.stepping.proofs.access.Answer as N
 use Rattle.stepping.proofs.access.Answer.Laws as N′

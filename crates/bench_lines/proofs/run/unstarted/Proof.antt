@@ -1,7 +1,7 @@
 use borrow.Author.Needs.{needs}
 use mathlib.Core.Path.{ap}
 use lib.ListN.{replicate}
-use Rattle.stepping.specs.declared.record.Task.{Task}
+use Rattle.records.specs.declared.record.Task.{Task}
 use Rattle.bench_lines.proofs.Runs.{benchOf}
 use Rattle.bench_lines.proofs.run.unstarted.Statement.{statement}
 use Rattle.bench_lines.proofs.run.unstarted.Tie as tie

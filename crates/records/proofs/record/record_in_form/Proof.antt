@@ -1,8 +1,8 @@
 use borrow.Author.Tests.{eq-eqb, ne-eqb}
-use Rattle.stepping.specs.Record.{recordInForm}
+use Rattle.records.specs.Record.{recordInForm}
 use borrow.Author.Needs.{needs}
-use Rattle.stepping.proofs.record.record_in_form.Statement.{statement}
-use Rattle.stepping.proofs.record.record_in_form.Tie as tie
+use Rattle.records.proofs.record.record_in_form.Statement.{statement}
+use Rattle.records.proofs.record.record_in_form.Tie as tie
 
 idle-in-form-requires : tie.Need-idle-in-form-requires
 idle-in-form-requires c κs = search needs

@@ -5,10 +5,10 @@ use lib.Dec.{eqb, leb, ltb}
 use Rattle.refusal.specs.declared.Refusal.the-variants as cause
 use Rattle.cells.specs.Form.{headInForm, announcementInForm}
 use Rattle.table.specs.declared.Shape.{Shape}
-use Rattle.stepping.specs.declared.record.Task.{Task}
-use Rattle.stepping.specs.declared.phase.PhaseRead.{PhaseRead}
-use Rattle.stepping.specs.declared.phase.PhaseRead.the-variants.{Known, Refused}
-use Rattle.stepping.specs.Phase.{phaseOf}
+use Rattle.records.specs.declared.record.Task.{Task}
+use Rattle.records.specs.declared.phase.PhaseRead.{PhaseRead}
+use Rattle.records.specs.declared.phase.PhaseRead.the-variants.{Known, Refused}
+use Rattle.records.specs.Phase.{phaseOf}
 
 -- An idle task keeps its priority alone.
 abbrev pub idleTask : ℕ → Task

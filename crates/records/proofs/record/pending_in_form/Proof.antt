@@ -3,10 +3,10 @@ use mathlib.Core.Path.{_≡_, sym, _∙_}
 use mathlib.Core.Bool.{true}
 use borrow.Author.Tests.{le-ltb, lt-ltb, not-false, not-true}
 use Rattle.cells.specs.Form.{headInForm}
-use Rattle.stepping.specs.Record.{namesTask, payloadInForm, pendingInForm}
+use Rattle.records.specs.Record.{namesTask, payloadInForm, pendingInForm}
 use borrow.Author.Needs.{needs}
-use Rattle.stepping.proofs.record.pending_in_form.Statement.{statement}
-use Rattle.stepping.proofs.record.pending_in_form.Tie as tie
+use Rattle.records.proofs.record.pending_in_form.Statement.{statement}
+use Rattle.records.proofs.record.pending_in_form.Tie as tie
 
 -- The tests of other functions that held.
 named : (c : tie.Else1) → let a = c .before .before .args in namesTask (a .tasks) (a .own .phase) ≡ true

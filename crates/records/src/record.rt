@@ -5,7 +5,7 @@ use cells::form;
 use refusal::Refusal;
 use table::Shape;
 ghost use mathlib.Core.Path.{_≡_};
-ghost use Rattle.stepping.specs.Record.{idleTask, idleInForm, namesTask, payloadInForm, pendingInForm, recordInForm, readRecord};
+ghost use Rattle.records.specs.Record.{idleTask, idleInForm, namesTask, payloadInForm, pendingInForm, recordInForm, readRecord};
 
 // Which fields a phase uses, and their forms and ranges, stand in docs/RECORDS.md. Its size is 32 bytes, without gaps.
 #[repr(C)]

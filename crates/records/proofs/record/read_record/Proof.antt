@@ -1,9 +1,9 @@
 -- The number is read first, then the form decides.
 use mathlib.Core.Path.{sym, _∙_}
-use Rattle.stepping.specs.Record.{readRecord}
+use Rattle.records.specs.Record.{readRecord}
 use borrow.Author.Needs.{needs}
-use Rattle.stepping.proofs.record.read_record.Statement.{statement}
-use Rattle.stepping.proofs.record.read_record.Tie as tie
+use Rattle.records.proofs.record.read_record.Statement.{statement}
+use Rattle.records.proofs.record.read_record.Tie as tie
 
 read-phase-requires : tie.Need-read-phase-requires
 read-phase-requires c κs = search needs

@@ -1,8 +1,8 @@
 use borrow.Author.Tests.{le-ltb, lt-ltb}
-use Rattle.stepping.specs.Record.{namesTask}
+use Rattle.records.specs.Record.{namesTask}
 use borrow.Author.Needs.{needs}
-use Rattle.stepping.proofs.record.names_task.Statement.{statement}
-use Rattle.stepping.proofs.record.names_task.Tie as tie
+use Rattle.records.proofs.record.names_task.Statement.{statement}
+use Rattle.records.proofs.record.names_task.Tie as tie
 
 returns : tie.Need-returns
 unfolding namesTask

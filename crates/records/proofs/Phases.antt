@@ -10,12 +10,12 @@ use lib.Dec.{eqb, leb, ltb}
 use lib.ListN.{length, getD}
 use Rattle.cells.proofs.Tests.{and-left, and-right}
 use Rattle.refusal.specs.declared.Refusal.the-variants as cause
-use Rattle.stepping.specs.declared.phase.Phase.{Phase}
-use Rattle.stepping.specs.declared.phase.Phase.the-variants.{Idle, ReadOnly, Announce, Poll, LoadHead, LinkHead, LoadPriority, LoadOwn, LoadExit, LinkExit, ClearExit, ReleaseExit, Retract, ClearHead, ReloadClear, Apply, ReloadApply, LoadHelped, LinkHelped, Validate, HandOver, ReloadHandOver, Release, ReloadRelease}
-use Rattle.stepping.specs.declared.phase.PhaseRead.{PhaseRead}
-use Rattle.stepping.specs.declared.phase.PhaseRead.the-variants.{Known, Refused}
-use Rattle.stepping.specs.Phase.{phaseNumber, range, phaseOf}
-use Rattle.stepping.specs.Record.{namesTask}
+use Rattle.records.specs.declared.phase.Phase.{Phase}
+use Rattle.records.specs.declared.phase.Phase.the-variants.{Idle, ReadOnly, Announce, Poll, LoadHead, LinkHead, LoadPriority, LoadOwn, LoadExit, LinkExit, ClearExit, ReleaseExit, Retract, ClearHead, ReloadClear, Apply, ReloadApply, LoadHelped, LinkHelped, Validate, HandOver, ReloadHandOver, Release, ReloadRelease}
+use Rattle.records.specs.declared.phase.PhaseRead.{PhaseRead}
+use Rattle.records.specs.declared.phase.PhaseRead.the-variants.{Known, Refused}
+use Rattle.records.specs.Phase.{phaseNumber, range, phaseOf}
+use Rattle.records.specs.Record.{namesTask}
 
 -- The task that a phase works for is below n; a phase that works for none asks nothing.
 abbrev pub WorksBelow : ℕ → Phase → Type 0

@@ -1,7 +1,7 @@
 // The phases of an operation, and their numbers in a task's record.
 use refusal::Refusal;
 ghost use mathlib.Core.Path.{_≡_};
-ghost use Rattle.stepping.specs.Phase.{phaseOf, phaseNumber};
+ghost use Rattle.records.specs.Phase.{phaseOf, phaseNumber};
 
 // What the next step of a task does. The phases that work for another task name it.
 pub enum Phase {

@@ -1,7 +1,7 @@
 use borrow.Author.Tests.{le-leb, lt-leb}
-use Rattle.stepping.specs.Record.{payloadInForm}
-use Rattle.stepping.proofs.record.payload_in_form.Statement.{statement}
-use Rattle.stepping.proofs.record.payload_in_form.Tie as tie
+use Rattle.records.specs.Record.{payloadInForm}
+use Rattle.records.proofs.record.payload_in_form.Statement.{statement}
+use Rattle.records.proofs.record.payload_in_form.Tie as tie
 
 returns : tie.Need-returns
 unfolding payloadInForm

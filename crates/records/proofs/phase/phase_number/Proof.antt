@@ -1,7 +1,7 @@
 -- Each arm by the phase that it matches.
 use borrow.Author.Needs.{needs}
-use Rattle.stepping.proofs.phase.phase_number.Statement.{statement}
-use Rattle.stepping.proofs.phase.phase_number.Tie as tie
+use Rattle.records.proofs.phase.phase_number.Statement.{statement}
+use Rattle.records.proofs.phase.phase_number.Tie as tie
 
 enum-told : tie.Need-enum-told
 enum-told c = search needs

@@ -4,11 +4,11 @@ use Prim.Native.Nat.{ℕ, _+_, _-_, _≤_, _<_}
 use native.Mathlib.Omega.{arith}
 use mir.Syntax.{w8}
 use mir.Val.{Fits}
-use Rattle.stepping.specs.declared.phase.Phase.the-variants.{Apply, ReloadApply, LoadHelped, LinkHelped, Validate, HandOver, ReloadHandOver, Release, ReloadRelease}
-use Rattle.stepping.specs.Phase.{phaseOf}
-use Rattle.stepping.proofs.Phases.{known, unknown, unused, placed}
-use Rattle.stepping.proofs.phase.read_phase.Statement.{statement}
-use Rattle.stepping.proofs.phase.read_phase.Tie as tie
+use Rattle.records.specs.declared.phase.Phase.the-variants.{Apply, ReloadApply, LoadHelped, LinkHelped, Validate, HandOver, ReloadHandOver, Release, ReloadRelease}
+use Rattle.records.specs.Phase.{phaseOf}
+use Rattle.records.proofs.Phases.{known, unknown, unused, placed}
+use Rattle.records.proofs.phase.read_phase.Statement.{statement}
+use Rattle.records.proofs.phase.read_phase.Tie as tie
 
 -- The number of a task fits a byte.
 task-fits : (first k : ℕ) → first ≤ k → k < first + 8 → Fits w8 (k - first)

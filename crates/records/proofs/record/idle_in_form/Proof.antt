@@ -1,9 +1,9 @@
 -- The tests in their order.
 use borrow.Author.Tests.{eq-eqb, le-ltb, lt-ltb, ne-eqb}
-use Rattle.stepping.specs.Record.{idleInForm}
+use Rattle.records.specs.Record.{idleInForm}
 use borrow.Author.Needs.{needs}
-use Rattle.stepping.proofs.record.idle_in_form.Statement.{statement}
-use Rattle.stepping.proofs.record.idle_in_form.Tie as tie
+use Rattle.records.proofs.record.idle_in_form.Statement.{statement}
+use Rattle.records.proofs.record.idle_in_form.Tie as tie
 
 cast-if1 : tie.Need-cast-if1
 cast-if1 c = search needs

@@ -1,0 +1,3 @@
+// A task's private record: its fields, its forms, and the phases with their numbers.
+pub mod phase;
+pub mod record;
