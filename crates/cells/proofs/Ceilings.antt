@@ -1,15 +1,14 @@
 -- The table of ceilings follows the rule 1,000 × n × n × n.
-use mathlib.Core.Path.{_≡_, refl, ap, sym, _∙_}
+use mathlib.Core.Path.{_≡_, refl}
 use mathlib.Core.Bool.{Bool, true, false, _&&_}
-use Prim.Native.Nat.{ℕ, suc, _+_, _*_, _-_, _<_, _≤_}
+use Prim.Native.Nat.{ℕ, suc, _*_, _-_, _≤_}
 use native.Mathlib.Omega.{arith}
-use borrow.Author.Tests.{eqb-true, le-leb, lt-leb}
+use borrow.Author.Tests.{eqb-true, leb-true, le-leb}
 use lib.Dec.{eqb, leb}
 use lib.ListN.{getD}
-use Rattle.cells.proofs.Tests.{holds-at}
 use Rattle.cells.specs.Ceiling.{ceilings, ceilingOf, ceilingNumber}
-use Rattle.cells.specs.declared.ceiling.Ceiling.{Ceiling}
-use Rattle.cells.specs.declared.ceiling.Ceiling.the-variants.{Steps, Refused}
+use Rattle.cells.specs.declared.ceiling.Ceiling.the-variants.{Steps}
+use Rattle.cells.proofs.Tests.{and-left, and-right, holds-at}
 
 cubed : ℕ → Bool
 cubed k = eqb (getD ceilings k 0) (1000 * (suc k * suc k * suc k))
@@ -23,6 +22,10 @@ ceiling-cubed n h l =
     simp (le-leb 1 n h, le-leb n 8 l, r)
 
 -- Any other number of tasks is refused with 5.
-pub ceiling-refused : (n : ℕ) → leb 1 n && leb n 8 ≡ false → ceilingNumber (ceilingOf n) ≡ 5
+pub ceiling-refused : (n : ℕ) → (1 ≤ n → n ≤ 8 → ⊥) → ceilingNumber (ceilingOf n) ≡ 5
 unfolding ceilingOf
-ceiling-refused n h = rw h
+ceiling-refused n out = at (leb 1 n && leb n 8) refl
+  where
+    at : (b : Bool) → leb 1 n && leb n 8 ≡ b → ceilingNumber (ceilingOf n) ≡ 5
+    at true e = absurd (out (leb-true 1 n (and-left (leb 1 n) (leb n 8) e)) (leb-true n 8 (and-right (leb 1 n) (leb n 8) e)))
+    at false e = rw e

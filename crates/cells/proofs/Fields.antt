@@ -1,5 +1,5 @@
 -- Laws of fields, for every list of widths.
-use mathlib.Core.Path.{_≡_, refl, ap, ap₂, sym, _∙_}
+use mathlib.Core.Path.{_≡_, refl, ap, sym, _∙_}
 use mathlib.Core.List.{List, [], _∷_}
 use Prim.Native.Nat.{ℕ, _+_, _*_, _/_, _%_, _^_, _<_}
 use native.Mathlib.Nat.{add-mul-mod-self-left, mod-eq-of-lt, mod-lt, mod-add-div, add-mul-div-left, div-eq-of-lt, div-lt-iff-lt-mul, mul-comm, div-div-eq-div-mul, div-one}
@@ -25,6 +25,11 @@ unpack-pack (w ∷ ws) [] f = absurd f
 unpack-pack (w ∷ ws) (v ∷ vs) f =
     let r : ℕ = pack ws vs in
     rw (lowest w v r (f .0), rest w v r (f .0)) (ap (λ (us : List ℕ). v ∷ us) (unpack-pack ws vs (f .1)))
+
+-- The lowest field is what is left by its place value, and the others are the fields of the rest.
+pub unpack-low : (w : ℕ) (ws : List ℕ) (x : ℕ) → unpack (w ∷ ws) x ≡ x % 2 ^ w ∷ unpack ws (x / 2 ^ w)
+unfolding unpack
+unpack-low w ws x = refl
 
 -- Writing what was read gives the word back, if it has no bits beside the fields.
 pub pack-unpack : (ws : List ℕ) (x : ℕ) → x < 2 ^ total ws → pack ws (unpack ws x) ≡ x

@@ -1,6 +1,11 @@
-pub mod Fields
 pub mod Tests
+pub mod Fields
+pub mod Codec
+pub mod Forms
+pub mod HeadLaws
+pub mod AnnouncementLaws
 pub mod WordMarks
-pub mod Counts
 pub mod Images
+pub mod Counts
 pub mod Ceilings
+pub mod Cases

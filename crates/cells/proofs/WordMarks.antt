@@ -1,5 +1,5 @@
 -- What the marks of a cell are, for every task number.
-use mathlib.Core.Path.{_≡_, refl, sym, _∙_}
+use mathlib.Core.Path.{_≡_, refl, ap, sym, _∙_}
 use mathlib.Core.Bool.{Bool, true, false}
 use Prim.Native.Nat.{ℕ, _+_, _-_, _/_, _%_, _^_, _<_, _≤_}
 use native.Mathlib.Omega.{arith}
@@ -7,8 +7,8 @@ use borrow.Author.Tests.{ltb-true, lt-ltb, ne-eqb}
 use lib.Dec.{eqb, ltb}
 use lib.Pow.{pow-pos}
 use Rattle.cells.specs.Layout.{marksWidth, value, marks, markOf, hasMark, addMark, removeMark}
-use Rattle.cells.specs.Marks.{pick, has, add, remove}
-use Rattle.cells.specs.MarkLaws.{place-below, adds, removes, set-high, set-low, set-below, add-below}
+use Rattle.cells.specs.Marks.{pick, none, has, add, remove}
+use Rattle.cells.specs.MarkLaws.{SetsBit, place-below, has-none, has-low, set-high, set-low, add-below}
 
 -- A task below the marks' width has the marks that the laws of `MarkLaws` speak of.
 module _ (i w : ℕ) (h : i < marksWidth) where
@@ -67,3 +67,19 @@ module _ (i w : ℕ) where
       at : (b : Bool) → ltb i marksWidth ≡ b → addMark i w < 2 ^ n
       at true e = simp e (add-below i n w (omega (arith, ltb-true i marksWidth e)) h)
       at false e = simp e h
+
+-- Link and release keep the value of a cell and change its marks alone.
+module _ {c : ℕ} {f : ℕ → ℕ → ℕ} (sets : SetsBit c f) (i w : ℕ) (h : i < marksWidth) where
+  pub set-value : value (f i w) ≡ value w
+  set-value = set-high sets i marksWidth w h
+
+  pub set-marks : marks (f i w) ≡ f i (marks w)
+  set-marks = set-low sets i marksWidth w h
+
+-- In a cell whose marks are `none`, as a conditional store leaves it, no task has a mark.
+pub none-marked : (i w : ℕ) → i < marksWidth → marks w ≡ none → has i w ≡ false
+none-marked i w h e = sym (has-low i marksWidth w h) ∙ ap (has i) e ∙ has-none i
+
+-- A cell is its value and its marks.
+pub same-word : (v w : ℕ) → value v ≡ value w → marks v ≡ marks w → v ≡ w
+same-word v w e g = omega arith

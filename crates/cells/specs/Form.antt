@@ -7,6 +7,10 @@ use lib.ListN.{getD}
 use Rattle.cells.specs.Field.{unpack, total}
 use Rattle.cells.specs.Layout.{headWidths, announcementWidths, marks}
 use Rattle.cells.specs.Marks.{pick}
+use Rattle.cells.specs.declared.head.Head.{Head}
+use Rattle.cells.specs.declared.head.Head.the-variants.{Free, Held}
+use Rattle.cells.specs.declared.announcement.Announcement.{Announcement}
+use Rattle.cells.specs.declared.announcement.Announcement.the-variants.{Empty, Operation, Response}
 
 -- The largest number in a holder field, with n tasks.
 abbrev pub holderBound : ℕ → ℕ
@@ -16,14 +20,23 @@ holderBound n = 8
 unfoldable pub marksInForm : ℕ → ℕ → Bool
 marksInForm n w = ltb (marks w) (2 ^ n)
 
+-- A word with fields of these widths: bits that aren't named are 0, and marks and fields are in form.
+unfoldable pub inForm : List ℕ → (List ℕ → Bool) → ℕ → ℕ → Bool
+inForm ws fields n w = ltb w (2 ^ total ws) && (marksInForm n w && fields (unpack ws w))
+
 -- The state is below s, the holder within its bound, and without a holder the response is 0.
 unfoldable pub headFieldsInForm : ℕ → ℕ → List ℕ → Bool
 headFieldsInForm s n vs =
     ltb (getD vs 1 0) s && (leb (getD vs 3 0) (holderBound n) && pick (eqb (getD vs 3 0) 0) (eqb (getD vs 2 0) 0) true)
 
--- Bits that aren't named are 0, and marks and fields are in form.
+-- A head in form.
 unfoldable pub headInForm : ℕ → ℕ → ℕ → Bool
-headInForm s n w = ltb w (2 ^ total headWidths) && (marksInForm n w && headFieldsInForm s n (unpack headWidths w))
+headInForm s n w = inForm headWidths (headFieldsInForm s n) n w
+
+-- What a head in form holds: a state below s, and a holder within its bound.
+abbrev pub headInRange : ℕ → ℕ → Head → Bool
+headInRange s n (Free q) = ltb q s
+headInRange s n (Held q j r) = ltb q s && ltb j (holderBound n)
 
 -- Kind 0 has payload 0, kind 1 an operation below m, kind 2 any response, and there is no other kind.
 unfoldable pub payloadInForm : ℕ → ℕ → ℕ → Bool
@@ -33,10 +46,15 @@ payloadInForm m k p = pick (eqb k 0) (eqb p 0) (pick (eqb k 1) (ltb p m) (eqb k 
 unfoldable pub announcementFieldsInForm : ℕ → List ℕ → Bool
 announcementFieldsInForm m vs = eqb (getD vs 2 0) 0 && payloadInForm m (getD vs 1 0) (getD vs 3 0)
 
--- Bits that aren't named are 0, and marks and fields are in form.
+-- An announcement in form.
 unfoldable pub announcementInForm : ℕ → ℕ → ℕ → Bool
-announcementInForm m n w =
-    ltb w (2 ^ total announcementWidths) && (marksInForm n w && announcementFieldsInForm m (unpack announcementWidths w))
+announcementInForm m n w = inForm announcementWidths (announcementFieldsInForm m) n w
+
+-- What an announcement in form holds: an operation below m, any response, or nothing.
+abbrev pub announcementInRange : ℕ → Announcement → Bool
+announcementInRange m Empty = true
+announcementInRange m (Operation o) = ltb o m
+announcementInRange m (Response r) = true
 
 -- Every word of a list is in form as an announcement.
 unfoldable pub announcementsInForm : ℕ → ℕ → List ℕ → Bool

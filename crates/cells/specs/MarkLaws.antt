@@ -2,15 +2,15 @@
 use mathlib.Core.Path.{_≡_, refl, ap, sym, _∙_}
 use mathlib.Core.Bool.{Bool, true, false}
 use mathlib.Core.Logic.{_≢_}
-use Prim.Native.Nat.{ℕ, zero, suc, _+_, _*_, _-_, _/_, _%_, _^_, _≤_, _<_}
+use Prim.Native.Nat.{ℕ, zero, suc, _+_, _*_, _/_, _%_, _^_, _≤_, _<_}
 use native.Mathlib.Nat.{pow-succ', div-div-eq-div-mul, div-eq-of-lt}
 use native.Mathlib.Numerals.{add-one}
 use native.Mathlib.Omega.{arith}
-use borrow.Author.Tests.{eqb-true, eqb-false, eq-eqb, ne-eqb, leb-true, leb-false}
+use borrow.Author.Tests.{eqb-true, eqb-false, leb-true, leb-false}
 use lib.Arith.{half-le}
 use lib.Dec.{eqb, leb}
 use lib.Pow.{mod-pow-add}
-use Rattle.cells.specs.Marks.{pick, has, add, remove}
+use Rattle.cells.specs.Marks.{none, has, add, remove}
 
 -- A number is its half twice and its lowest bit; what stands at index i + 1 stands at index i of the half.
 half-place : (i w : ℕ) → w / 2 ^ suc i ≡ w / 2 / 2 ^ i
@@ -69,8 +69,8 @@ removes = record { bit = omega arith; at-zero = λ w. lowest w (eqb (w % 2) 1) r
     higher i w true e = rw (has-suc i w, e) (omega (arith, pow-succ' 2 i, place-below i (w / 2) e))
     higher i w false e = rw (has-suc i w, e) (omega arith)
 
--- No mark stands in 0.
-pub has-none : (i : ℕ) → has i 0 ≡ false
+-- No mark stands in `none`.
+pub has-none : (i : ℕ) → has i none ≡ false
 has-none zero = has-zero 0
 has-none (suc i) = has-suc i 0 ∙ has-none i
 
@@ -92,8 +92,8 @@ same-by (suc k) v w hv hw h =
 pub has-injective : (v w : ℕ) → ((i : ℕ) → has i v ≡ has i w) → v ≡ w
 has-injective v w = same-by (v + w) v w (omega arith) (omega arith)
 
--- A number in which no mark stands is 0.
-pub none-has : (w : ℕ) → ((i : ℕ) → has i w ≡ true → ⊥) → w ≡ 0
+-- A number in which no mark stands is `none`.
+pub none-has : (w : ℕ) → ((i : ℕ) → has i w ≡ true → ⊥) → w ≡ none
 none-has w h = has-injective w 0 (λ i. at i (has i w) refl ∙ sym (has-none i))
   where
     at : (i : ℕ) (b : Bool) → has i w ≡ b → has i w ≡ false

@@ -8,6 +8,10 @@ abbrev pub pick : {X : Type 0} → Bool → X → X → X
 pick true a b = a
 pick false a b = b
 
+-- No marks.
+abbrev pub none : ℕ
+none = 0
+
 -- Task i has its mark in w.
 unfoldable pub has : ℕ → ℕ → Bool
 has i w = eqb (w / 2 ^ i % 2) 1

@@ -1,8 +1,5 @@
 // The announcement of a task: nothing, an operation that is to be applied, or its response.
-use crate::layout::KIND_PLACE;
-use crate::layout::KIND_SIZE;
-use crate::layout::PAYLOAD_PLACE;
-use crate::layout::PAYLOAD_SIZE;
+use crate::layout;
 ghost use mathlib.Core.Path.{_≡_};
 ghost use Rattle.cells.specs.Layout.{announcementWord, announcementOf};
 
@@ -18,8 +15,12 @@ pub fn announcement_word(announcement: Announcement, marks: u8) -> u64
 {
     match announcement {
         Announcement::Empty => marks as u64,
-        Announcement::Operation(o) => marks as u64 + KIND_PLACE + o as u64 * PAYLOAD_PLACE,
-        Announcement::Response(r) => marks as u64 + 2 * KIND_PLACE + r as u64 * PAYLOAD_PLACE,
+        Announcement::Operation(o) => marks as u64
+            + layout::KIND_PLACE
+            + o as u64 * layout::PAYLOAD_PLACE,
+        Announcement::Response(r) => marks as u64
+            + 2 * layout::KIND_PLACE
+            + r as u64 * layout::PAYLOAD_PLACE,
     }
 }
 
@@ -27,8 +28,8 @@ pub fn announcement_word(announcement: Announcement, marks: u8) -> u64
 pub fn read_announcement(word: u64) -> Announcement
     ensures { λ r. ⌜ r ≡ announcementOf word ⌝ }
 {
-    let kind = word / KIND_PLACE % KIND_SIZE;
-    let payload = (word / PAYLOAD_PLACE % PAYLOAD_SIZE) as u16;
+    let kind = word / layout::KIND_PLACE % layout::KIND_SIZE;
+    let payload = (word / layout::PAYLOAD_PLACE % layout::PAYLOAD_SIZE) as u16;
     match kind {
         1 => Announcement::Operation(payload),
         2 => Announcement::Response(payload),

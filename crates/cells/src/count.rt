@@ -1,13 +1,13 @@
 // How many marks are set.
-use crate::layout::MARKS_SIZE;
+use crate::layout;
 ghost use mathlib.Core.Path.{_≡_};
 ghost use Rattle.cells.specs.Count.{marksIn, markCount};
 
 // How many marks are set in a word: the count of ones of its low byte.
-pub fn marks_in(word: u64) -> u64
+fn marks_in(word: u64) -> u64
     ensures { λ r. ⌜ r ≡ marksIn word ⌝ }
 {
-    u64::count_ones(word % MARKS_SIZE) as u64
+    u64::count_ones(word % layout::MARKS_SIZE) as u64
 }
 
 // How many marks are set in all cells together.

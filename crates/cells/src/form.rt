@@ -1,35 +1,18 @@
 // Which words are in form.
-use crate::layout::ANNOUNCEMENT_SIZE;
-use crate::layout::GAP_PLACE;
-use crate::layout::GAP_SIZE;
-use crate::layout::HEAD_SIZE;
-use crate::layout::HOLDER_PLACE;
-use crate::layout::HOLDER_SIZE;
-use crate::layout::KIND_PLACE;
-use crate::layout::KIND_SIZE;
-use crate::layout::MARK_COUNT;
-use crate::layout::MARKS_SIZE;
-use crate::layout::PAYLOAD_PLACE;
-use crate::layout::PAYLOAD_SIZE;
-use crate::layout::RESPONSE_PLACE;
-use crate::layout::RESPONSE_SIZE;
-use crate::layout::STATE_PLACE;
-use crate::layout::STATE_SIZE;
+use crate::layout;
 use crate::marks;
 ghost use mathlib.Core.Path.{_≡_};
-ghost use Prim.Native.Nat.{_^_};
-ghost use lib.Dec.{ltb};
 ghost use Rattle.cells.specs.Form.{headInForm, announcementInForm, marksInForm};
 
 // The largest number that a holder field may have.
 const HOLDER_BOUND: u64 = 8;
 
 // Whether a word has marks of tasks below `tasks` alone.
-pub fn marks_in_form(word: u64, tasks: usize) -> bool
+fn marks_in_form(word: u64, tasks: usize) -> bool
     ensures { λ r. ⌜ r ≡ marksInForm tasks word ⌝ }
 {
-    if tasks < MARK_COUNT {
-        return word % MARKS_SIZE < marks::mark_of(tasks);
+    if tasks < layout::MARK_COUNT {
+        return word % layout::MARKS_SIZE < marks::mark_of(tasks);
     }
     true
 }
@@ -38,10 +21,10 @@ pub fn marks_in_form(word: u64, tasks: usize) -> bool
 pub fn head_in_form(word: u64, states: u32, tasks: usize) -> bool
     ensures { λ r. ⌜ r ≡ headInForm states tasks word ⌝ }
 {
-    let state = word / STATE_PLACE % STATE_SIZE;
-    let response = word / RESPONSE_PLACE % RESPONSE_SIZE;
-    let holder = word / HOLDER_PLACE % HOLDER_SIZE;
-    if word >= HEAD_SIZE {
+    let state = word / layout::STATE_PLACE % layout::STATE_SIZE;
+    let response = word / layout::RESPONSE_PLACE % layout::RESPONSE_SIZE;
+    let holder = word / layout::HOLDER_PLACE % layout::HOLDER_SIZE;
+    if word >= layout::HEAD_SIZE {
         return false;
     }
     if !marks_in_form(word, tasks) {
@@ -63,10 +46,10 @@ pub fn head_in_form(word: u64, states: u32, tasks: usize) -> bool
 pub fn announcement_in_form(word: u64, operations: u32, tasks: usize) -> bool
     ensures { λ r. ⌜ r ≡ announcementInForm operations tasks word ⌝ }
 {
-    let kind = word / KIND_PLACE % KIND_SIZE;
-    let gap = word / GAP_PLACE % GAP_SIZE;
-    let payload = word / PAYLOAD_PLACE % PAYLOAD_SIZE;
-    if word >= ANNOUNCEMENT_SIZE {
+    let kind = word / layout::KIND_PLACE % layout::KIND_SIZE;
+    let gap = word / layout::GAP_PLACE % layout::GAP_SIZE;
+    let payload = word / layout::PAYLOAD_PLACE % layout::PAYLOAD_SIZE;
+    if word >= layout::ANNOUNCEMENT_SIZE {
         return false;
     }
     if !marks_in_form(word, tasks) {

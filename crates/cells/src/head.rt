@@ -1,10 +1,5 @@
 // The head: a state and, while a response waits to be handed over, its holder.
-use crate::layout::HOLDER_PLACE;
-use crate::layout::HOLDER_SIZE;
-use crate::layout::RESPONSE_PLACE;
-use crate::layout::RESPONSE_SIZE;
-use crate::layout::STATE_PLACE;
-use crate::layout::STATE_SIZE;
+use crate::layout;
 ghost use mathlib.Core.Path.{_≡_};
 ghost use Rattle.cells.specs.Layout.{headWord, headOf};
 
@@ -20,16 +15,16 @@ pub fn head_word(head: Head, marks: u8) -> u64
     ensures { λ r. ⌜ r ≡ headWord head marks ⌝ }
 {
     match head {
-        Head::Free { state } => marks as u64 + state as u64 * STATE_PLACE,
+        Head::Free { state } => marks as u64 + state as u64 * layout::STATE_PLACE,
         Head::Held {
             state,
             task,
             response,
         } => {
             marks as u64
-                + state as u64 * STATE_PLACE
-                + response as u64 * RESPONSE_PLACE
-                + (task as u64 + 1) * HOLDER_PLACE
+                + state as u64 * layout::STATE_PLACE
+                + response as u64 * layout::RESPONSE_PLACE
+                + (task as u64 + 1) * layout::HOLDER_PLACE
         }
     }
 }
@@ -38,9 +33,9 @@ pub fn head_word(head: Head, marks: u8) -> u64
 pub fn read_head(word: u64) -> Head
     ensures { λ r. ⌜ r ≡ headOf word ⌝ }
 {
-    let state = (word / STATE_PLACE % STATE_SIZE) as u16;
-    let response = (word / RESPONSE_PLACE % RESPONSE_SIZE) as u16;
-    let holder = word / HOLDER_PLACE % HOLDER_SIZE;
+    let state = (word / layout::STATE_PLACE % layout::STATE_SIZE) as u16;
+    let response = (word / layout::RESPONSE_PLACE % layout::RESPONSE_SIZE) as u16;
+    let holder = word / layout::HOLDER_PLACE % layout::HOLDER_SIZE;
     if holder == 0 {
         return Head::Free { state };
     }

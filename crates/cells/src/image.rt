@@ -1,5 +1,5 @@
 // The image of a state: what the cells hold at rest.
-use crate::layout::STATE_PLACE;
+use crate::layout;
 ghost use mathlib.Core.Path.{_≡_};
 ghost use lib.ListN.{length};
 ghost use Rattle.cells.specs.Image.{imageIn};
@@ -14,6 +14,6 @@ pub fn fill_image(cells: &mut [u64], state: u16)
         i += 1;
     }
     if 0 < cells.len() {
-        cells[0] = state as u64 * STATE_PLACE;
+        cells[0] = state as u64 * layout::STATE_PLACE;
     }
 }

@@ -1,6 +1,9 @@
-// The layout of the cells by place values: how many values each field holds, and where it starts.
+// The layout of the cells by place values.
+
+// How many tasks have a mark.
 pub const MARK_COUNT: usize = 8;
 
+// How many values each field holds.
 pub const MARKS_SIZE: u64 = 256;
 
 pub const STATE_SIZE: u64 = 256;
@@ -15,6 +18,7 @@ pub const GAP_SIZE: u64 = 64;
 
 pub const PAYLOAD_SIZE: u64 = 256;
 
+// Where each field of the head starts, and where the head ends.
 pub const STATE_PLACE: u64 = MARKS_SIZE;
 
 pub const RESPONSE_PLACE: u64 = STATE_PLACE * STATE_SIZE;
@@ -23,6 +27,7 @@ pub const HOLDER_PLACE: u64 = RESPONSE_PLACE * RESPONSE_SIZE;
 
 pub const HEAD_SIZE: u64 = HOLDER_PLACE * HOLDER_SIZE;
 
+// Where each field of an announcement starts, and where it ends.
 pub const KIND_PLACE: u64 = MARKS_SIZE;
 
 pub const GAP_PLACE: u64 = KIND_PLACE * KIND_SIZE;

@@ -1,6 +1,5 @@
 // The marks of a word: a task linked to a cell has its mark there.
-use crate::layout::MARK_COUNT;
-use crate::layout::MARKS_SIZE;
+use crate::layout;
 ghost use mathlib.Core.Path.{_≡_};
 ghost use Rattle.cells.specs.Layout.{value, marks, markOf, hasMark, addMark, removeMark};
 
@@ -14,21 +13,21 @@ const MARK_PLACES: [u64; 8] = [1, 2, 4, 8, 16, 32, 64, 128];
 pub fn value_of(word: u64) -> u64
     ensures { λ r. ⌜ r ≡ value word ⌝ }
 {
-    word / MARKS_SIZE
+    word / layout::MARKS_SIZE
 }
 
 // The marks of a word.
 pub fn marks_of(word: u64) -> u8
     ensures { λ r. ⌜ r ≡ marks word ⌝ }
 {
-    (word % MARKS_SIZE) as u8
+    (word % layout::MARKS_SIZE) as u8
 }
 
 // The place value of a task's mark; 0 for a task beyond the marks.
 pub fn mark_of(task: usize) -> u64
     ensures { λ r. ⌜ r ≡ markOf task ⌝ }
 {
-    if task < MARK_COUNT {
+    if task < layout::MARK_COUNT {
         return MARK_PLACES[task];
     }
     0
@@ -59,8 +58,8 @@ pub fn add_mark(word: u64, task: usize) -> u64
 pub fn remove_mark(word: u64, task: usize) -> u64
     ensures { λ r. ⌜ r ≡ removeMark task word ⌝ }
 {
-    if has_mark(word, task) {
-        return word - mark_of(task);
+    if !has_mark(word, task) {
+        return word;
     }
-    word
+    word - mark_of(task)
 }

@@ -2,12 +2,18 @@
 use mathlib.Core.Path.{_≡_, refl, ap, sym, _∙_}
 use mathlib.Core.Bool.{Bool, true, false}
 use mathlib.Core.List.{List, _++_}
-use Prim.Native.Nat.{ℕ, _≤_}
+use Prim.Native.Nat.{ℕ, _<_, _≤_}
 use native.Mathlib.Omega.{arith}
-use borrow.Author.Tests.{leb-true}
+use borrow.Author.Tests.{leb-true, le-leb, lt-leb}
 use lib.Dec.{leb}
-use lib.ListN.{take, drop, take-append-drop}
+use lib.ListN.{length, take, drop, take-append-drop}
 use Rattle.refusal.specs.declared.Refusal.{Refusal}
+use Rattle.refusal.specs.declared.Refusal.the-variants as cause
+use Rattle.cells.specs.Ceiling.{ceilingOf}
+use Rattle.cells.specs.declared.ceiling.Ceiling.the-variants as ceiling
+use Rattle.table.specs.declared.Checked.{Checked}
+use Rattle.table.specs.declared.Checked.the-variants as table
+use Rattle.table.specs.Check.{checkOf}
 use Rattle.stepping.specs.declared.record.Task.{Task}
 use Rattle.stepping.specs.declared.access.Answer.{Answer}
 use Rattle.stepping.specs.declared.access.Answer.the-variants as step
@@ -15,11 +21,13 @@ use Rattle.stepping.specs.declared.call.StartAnswer.{StartAnswer}
 use Rattle.stepping.specs.declared.call.StartAnswer.the-variants as start
 use Rattle.stepping.specs.declared.call.BeginAnswer.{BeginAnswer}
 use Rattle.stepping.specs.declared.call.BeginAnswer.the-variants as begin
-use Rattle.stepping.specs.Call.{Started, startOf, Begun, beginOf, Served, stepOf}
+use Rattle.stepping.specs.Call.{withRow, Started, startIn, startOf, Begun, beginOf, Served, stepOf}
 use Rattle.stepping.proofs.Refused.{refused-start, refused-begin-row, refused-step-row}
 use Rattle.drive.specs.First.{firstCount, startFirst, beginFirst, stepFirst}
 use Rattle.drive.proofs.Calls.{BeginSaid, StepSaid}
 use Rattle.drive.proofs.Starts.{StartSaid}
+
+-- ---- How many records are lent
 
 -- At most nine records are lent.
 pub first-few : (n m : ℕ) → m ≡ firstCount n → m ≤ 9
@@ -28,6 +36,21 @@ first-few n m e = rw e (at (leb n 9) refl)
     at : (b : Bool) → leb n 9 ≡ b → firstCount n ≤ 9
     at true e = rw e (leb-true n 9 e)
     at false e = rw e (omega arith)
+
+-- A row of more than eight records is refused by start, however long it is; so nine records stand for any longer row.
+no-ceiling : (n : ℕ) → 8 < n → ceilingOf n ≡ ceiling.Refused cause.Row
+unfolding ceilingOf
+no-ceiling n h = simp (le-leb 1 n (omega arith), lt-leb n 8 h)
+
+pub long-start : (file cs : List ℕ) (ys zs : List Task) → 8 < length ys → 8 < length zs → startOf file cs ys .answer ≡ startOf file cs zs .answer
+unfolding startOf
+long-start file cs ys zs h g = at (checkOf file)
+  where
+    at : (checked : Checked) → startIn cs ys (withRow (length ys) checked) .answer ≡ startIn cs zs (withRow (length zs) checked) .answer
+    at (table.Accepted shape) = rw (no-ceiling (length ys) h, no-ceiling (length zs) g) refl
+    at (table.Refused c) = refl
+
+-- ---- The calls
 
 pub start-first : (file cs : List ℕ) (xs : List Task) (n m : ℕ) (cs′ : List ℕ) (ys′ : List Task) (a : StartAnswer) (row : List Task) (b : StartAnswer)
     → m ≡ firstCount n → StartSaid file cs (take m xs) cs′ ys′ a → row ≡ ys′ ++ drop m xs → b ≡ a

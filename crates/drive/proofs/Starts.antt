@@ -5,15 +5,12 @@ use mathlib.Core.List.{List, [], _∷_, _++_, append-nil}
 use Prim.Native.Nat.{ℕ, zero, suc, _+_, _<_, _≤_}
 use native.Mathlib.Numerals.{add-one}
 use native.Mathlib.Omega.{arith}
-use borrow.Author.Tests.{eqb-true, leb-true}
-use lib.Dec.{eqb, leb}
+use borrow.Author.Tests.{eqb-true}
+use lib.Dec.{eqb}
 use lib.ListN.{length, getD, drop, set, length-append}
 use lib.Seq.{set-at, drop-cons, drop-length, append-snoc}
-use Rattle.cells.specs.Image.{image, imageIn}
-use Rattle.cells.specs.Ceiling.{ceilingOf}
-use Rattle.table.specs.declared.Shape.{Shape}
+use Rattle.cells.specs.Image.{imageIn}
 use Rattle.table.specs.declared.Checked.{Checked}
-use Rattle.table.specs.declared.Checked.the-variants as table
 use Rattle.table.specs.Check.{checkOf}
 use Rattle.stepping.specs.declared.call.Admitted.{Admitted}
 use Rattle.stepping.specs.declared.call.Admitted.the-variants as admitted
@@ -22,7 +19,8 @@ use Rattle.stepping.specs.declared.call.StartAnswer.{StartAnswer}
 use Rattle.stepping.specs.declared.call.StartAnswer.the-variants as start
 use Rattle.stepping.specs.declared.record.Task.{Task}
 use Rattle.stepping.specs.Record.{idleTask}
-use Rattle.stepping.specs.Call.{idleRow, Started, withCeiling, withRow, startIn, startOf, withCells, admitStartOf}
+use Rattle.stepping.specs.Call.{idleRow, Started, withRow, startIn, startOf, withCells, admitStartOf}
+use Rattle.stepping.proofs.Admission.{admitted-ranges}
 use Rattle.drive.specs.Start.{startedCells, idleCount}
 
 -- ---- The cells
@@ -96,21 +94,13 @@ idle-below : (a : StartAnswer) (n : ℕ) → idleCount a n ≤ n
 idle-below start.Started n = omega arith
 idle-below (start.Refused c) n = omega arith
 
-few-ceiling : (shape : Shape) (k n : ℕ) → idleCount (withCells k n (withCeiling shape (ceilingOf n)) .answer) n ≤ 8
-unfolding ceilingOf
-few-ceiling shape k n = at (leb 1 n) (leb n 8) refl refl
-  where
-    at : (a b : Bool) → leb 1 n ≡ a → leb n 8 ≡ b → idleCount (withCells k n (withCeiling shape (ceilingOf n)) .answer) n ≤ 8
-    at false b ea eb = rw ea (omega arith)
-    at true false ea eb = rw (ea, eb) (omega arith)
-    at true true ea eb = omega (arith, idle-below (withCells k n (withCeiling shape (ceilingOf n)) .answer) n, leb-true n 8 eb)
-
-few-row : (k n : ℕ) (checked : Checked) → idleCount (withCells k n (withRow n checked) .answer) n ≤ 8
-few-row k n (table.Accepted shape) = few-ceiling shape k n
-few-row k n (table.Refused c) = omega arith
+few : (k n : ℕ) (checked : Checked) (found : Admitted) → withRow n checked ≡ found → idleCount (withCells k n found .answer) n ≤ 8
+few k n checked (admitted.Refused c) e = omega arith
+few k n checked (admitted.Accepted shape c) e =
+    omega (arith, idle-below (withCells k n (admitted.Accepted shape c) .answer) n, admitted-ranges n c shape checked e .few)
 
 -- The records that a start fills are in the row, and at most eight.
 pub count-fits : (file cs : List ℕ) (ys : List Task) (a : StartAnswer) → a ≡ admitStartOf file (length cs) (length ys) .answer
     → (idleCount a (length ys) ≤ length ys) × (idleCount a (length ys) ≤ 8)
 unfolding admitStartOf
-count-fits file cs ys a e = (idle-below a (length ys), rw e (few-row (length cs) (length ys) (checkOf file)))
+count-fits file cs ys a e = (idle-below a (length ys), rw e (few (length cs) (length ys) (checkOf file) (withRow (length ys) (checkOf file)) refl))

@@ -34,18 +34,21 @@ fn first_count(tasks: usize) -> usize
     if tasks <= MOST { tasks } else { MOST }
 }
 
+// The records and the answer of a start, together.
 fn after_start(row: [Task; 9], answer: StartAnswer) -> StartFirst
     ensures { λ r. ⌜ (r .row ≡ row) × (r .answer ≡ answer) ⌝ }
 {
     StartFirst { row, answer }
 }
 
+// The records and the answer of a begin, together.
 fn after_begin(row: [Task; 9], answer: BeginAnswer) -> BeginFirst
     ensures { λ r. ⌜ (r .row ≡ row) × (r .answer ≡ answer) ⌝ }
 {
     BeginFirst { row, answer }
 }
 
+// The records and the answer of a step, together.
 fn after_step(row: [Task; 9], answer: Answer) -> StepFirst
     ensures { λ r. ⌜ (r .row ≡ row) × (r .answer ≡ answer) ⌝ }
 {

@@ -110,14 +110,14 @@ pub fn step_record(
     step_answer(stepped)
 }
 
-// Begins an operation for a task that has a record in the row.
-fn begin_in(file: &[u8], row: &mut [Task], task: usize, operation: usize) -> BeginAnswer
-    requires { ⌜ task < length (now row) ⌝ }
-    ensures { λ r. ⌜ record { row = now (row .exit); answer = r } ≡ beginOf (now (file .entry)) (now (row .entry)) task operation ⌝ }
+// Begins an operation for the task at a place of the row.
+fn begin_in(file: &[u8], row: &mut [Task], index: usize, operation: usize) -> BeginAnswer
+    requires { ⌜ index < length (now row) ⌝ }
+    ensures { λ r. ⌜ record { row = now (row .exit); answer = r } ≡ beginOf (now (file .entry)) (now (row .entry)) index operation ⌝ }
 {
     let tasks = row.len();
-    let begun = call::begin_task(file, tasks, task, operation, row[task]);
-    row[task] = begun.task;
+    let begun = call::begin_task(file, tasks, index, operation, row[index]);
+    row[index] = begun.task;
     begin_answer(begun)
 }
 
@@ -125,8 +125,8 @@ fn begin_in(file: &[u8], row: &mut [Task], task: usize, operation: usize) -> Beg
 fn begin_past(file: &[u8], tasks: usize, task: usize, operation: usize) -> BeginAnswer
     ensures { λ r. ⌜ r ≡ beginTask (now (file .entry)) tasks task operation (idleTask 0) .answer ⌝ }
 {
-    let begun = call::begin_task(file, tasks, task, operation, record::idle_task(0));
-    begun.answer
+    let past = call::begin_task(file, tasks, task, operation, record::idle_task(0));
+    past.answer
 }
 
 // Begins an operation for a task.
@@ -140,14 +140,14 @@ pub fn begin(file: &[u8], row: &mut [Task], task: usize, operation: usize) -> Be
     begin_in(file, row, task, operation)
 }
 
-// Makes one step for a task that has a record in the row.
-fn step_in(file: &[u8], cells: &mut [u64], row: &mut [Task], task: usize) -> Answer
-    requires { ⌜ task < length (now row) ⌝ }
-    ensures { λ r. ⌜ record { cells = now (cells .exit); row = now (row .exit); answer = r } ≡ stepOf (now (file .entry)) (now (cells .entry)) (now (row .entry)) task ⌝ }
+// Makes one step for the task at a place of the row.
+fn step_in(file: &[u8], cells: &mut [u64], row: &mut [Task], index: usize) -> Answer
+    requires { ⌜ index < length (now row) ⌝ }
+    ensures { λ r. ⌜ record { cells = now (cells .exit); row = now (row .exit); answer = r } ≡ stepOf (now (file .entry)) (now (cells .entry)) (now (row .entry)) index ⌝ }
 {
     let tasks = row.len();
-    let stepped = call::step_task(file, cells, tasks, task, row[task]);
-    row[task] = stepped.task;
+    let stepped = call::step_task(file, cells, tasks, index, row[index]);
+    row[index] = stepped.task;
     step_answer(stepped)
 }
 
@@ -155,8 +155,8 @@ fn step_in(file: &[u8], cells: &mut [u64], row: &mut [Task], task: usize) -> Ans
 fn step_past(file: &[u8], cells: &mut [u64], tasks: usize, task: usize) -> Answer
     ensures { λ r. ⌜ (now (cells .exit) ≡ stepTask (now (file .entry)) (now (cells .entry)) tasks task (idleTask 0) .cells) × (r ≡ stepTask (now (file .entry)) (now (cells .entry)) tasks task (idleTask 0) .answer) ⌝ }
 {
-    let stepped = call::step_task(file, cells, tasks, task, record::idle_task(0));
-    stepped.answer
+    let past = call::step_task(file, cells, tasks, task, record::idle_task(0));
+    past.answer
 }
 
 // Makes one step for a task.

@@ -11,10 +11,10 @@ use Rattle.machine.specs.Object.{Object}
 use Rattle.machine.specs.Memory.{update}
 use Rattle.machine.specs.Run.{Call, Begin, Step, Answer, Begun, Running, Ended, Refused, Event}
 use Rattle.machine.specs.Book.{Operation, Page, Idle, Waiting, Done, Book, blank, turned, entered, Entering, none, enter, Booking, begun, begin-task, begin-operation, begin-pending, running-waiting, running-done, ended, step-task, step-idle}
-use Rattle.machine.specs.History.{At, Begins, Ends, replayed}
+use Rattle.machine.specs.History.{At, Begins, Ends, replayed, reached}
 use Rattle.machine.proofs.Update.{clash, update-all}
 use Rattle.machine.proofs.Lists.{at-same, at-bound, at-none, at-extended, at-next, Either, at-either}
-use Rattle.machine.proofs.Replay.{reached, reached-next, replayed-next, replayed-before}
+use Rattle.machine.proofs.Replay.{reached-next, replayed-next, replayed-before}
 
 -- ---- The invariant, over the whole history es and the number p of its events that are booked
 

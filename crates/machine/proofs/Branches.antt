@@ -1,13 +1,13 @@
 -- Every step takes one of the branches.
-use mathlib.Core.Path.{_≡_, refl, sym, _∙_, ap}
+use mathlib.Core.Path.{_≡_, refl, _∙_, ap}
 use mathlib.Core.Bool.{Bool, true, false}
 use mathlib.Core.Logic.{_≢_}
 use Prim.Native.Nat.{ℕ}
 use native.Mathlib.Omega.{arith}
 use native.Mathlib.Decide.{ℕ-discrete}
 use Rattle.machine.specs.Object.{Object}
-use Rattle.machine.specs.Memory.{HeadValue, Free, Held, Content, Empty, Op, Resp, Cell, Memory, stateOf, either, update, head-dec, announcement-dec}
-use Rattle.machine.specs.Machine.{Phase, Idle, ReadOnly, Announce, Poll, LoadHead, LinkHead, LoadPriority, LoadOwn, Apply, ReloadApply, LoadHelped, LinkHelped, Validate, HandOver, ReloadHandOver, Release, ReloadRelease, ClearHead, ReloadClear, LoadExit, LinkExit, ClearExit, ReleaseExit, Retract, linked, released, cleared, plan, result, perform, after, decided, pick, Next, Go, Turn, End, afterPoll, afterLink, afterPriority, afterOwn, afterLinkHelped, afterExit}
+use Rattle.machine.specs.Memory.{HeadValue, Free, Held, Content, Empty, Op, Resp, Cell, Memory, either, update, head-dec, announcement-dec}
+use Rattle.machine.specs.Machine.{Phase, Idle, ReadOnly, Announce, Poll, LoadHead, LinkHead, LoadPriority, LoadOwn, Apply, ReloadApply, LoadHelped, LinkHelped, Validate, HandOver, ReloadHandOver, Release, ReloadRelease, ClearHead, ReloadClear, LoadExit, LinkExit, ClearExit, ReleaseExit, Retract, linked, released, cleared, plan, result, perform, after, decided, pick, Next, afterPoll, afterLink, afterPriority, afterOwn, afterLinkHelped, afterExit}
 use Rattle.machine.specs.Invariant.{inHead, inAnnouncement, headValue, content, NotHolder}
 use Rattle.machine.proofs.Effect.{Effect, Unchanged, Linked, Released, Cleared, Retracted, Applied, LinkedAt, ReleasedAt, HandedOver, Announced, effect, withHead, withAnnouncement}
 use Rattle.machine.proofs.Branch.{Branch, stay-idle, read-only, announce, poll-response, poll-waits, load-head, link-free, link-held, link-fails, priority-waits, priority-rests, own-waits, own-response, own-empty, apply, apply-fails, reload-apply, reload-apply-lost, load-helped, link-helped, link-rested, link-helped-fails, validate, validate-fails, hand-over, hand-over-fails, reload-hand-over, reload-hand-over-lost, release, release-fails, reload-release, reload-release-lost, clear, clear-fails, reload-clear, reload-clear-lost, exit-clear, exit-release, exit-link, exit-retract, link-exit, link-exit-fails, clear-exit, clear-exit-fails, release-exit, release-exit-fails, retract}

@@ -6,7 +6,7 @@ use native.Mathlib.Omega.{arith}
 use lib.ListN.{length, length-append}
 use Rattle.machine.specs.Object.{Object}
 use Rattle.machine.specs.Run.{Event}
-use Rattle.machine.specs.Book.{Book, blank, Legal, Kept, rest, then}
+use Rattle.machine.specs.Book.{Book, blank, Kept, rest, then}
 use Rattle.machine.specs.History.{Linearizes}
 use Rattle.machine.proofs.Lists.{at-bound, at-next}
 use Rattle.machine.proofs.Agreement.{Agrees, blank-agrees, entries, booked}

@@ -1,5 +1,5 @@
 -- A step as its effect: the configuration after it.
-use mathlib.Core.Path.{_≡_, refl, ap}
+use mathlib.Core.Path.{_≡_, ap}
 use Prim.Native.Nat.{ℕ}
 use Rattle.machine.specs.Object.{Object}
 use Rattle.machine.specs.Memory.{Memory, update}
@@ -7,7 +7,7 @@ use Rattle.machine.specs.Machine.{Next, advance}
 use Rattle.machine.specs.Run.{Config, stepped, outcomeOfStep}
 use Rattle.machine.proofs.Effect.{Effect, effect}
 use Rattle.machine.proofs.Branch.{Branch}
-use Rattle.machine.proofs.Branches.{Taken, taken}
+use Rattle.machine.proofs.Branches.{taken}
 
 -- The configuration after a step of task i with effect e that leads to y.
 abbrev pub moved : (n i : ℕ) → Config → Effect → Next → Config

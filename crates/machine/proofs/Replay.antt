@@ -1,16 +1,11 @@
 -- Replay of an order that is extended by one operation at its end.
 use mathlib.Core.Path.{_≡_, refl}
 use mathlib.Core.List.{List, [], _∷_, _++_}
-use Prim.Native.Nat.{ℕ, zero, suc}
+use Prim.Native.Nat.{ℕ}
 use lib.ListN.{length}
 use Rattle.machine.specs.Object.{Object}
 use Rattle.machine.specs.Book.{Operation}
-use Rattle.machine.specs.History.{At, here, later, replayed}
-
--- The state that replay of an order leads to from state q.
-abbrev pub reached : Object → ℕ → List Operation → ℕ
-reached b q [] = q
-reached b q (x ∷ xs) = reached b (b .next q (x .operation)) xs
+use Rattle.machine.specs.History.{At, here, later, replayed, reached}
 
 module _ (b : Object) (x : Operation) where
   -- The last operation leads from the state reached before it to the next one.

@@ -2,7 +2,6 @@
 use mathlib.Core.Path.{_≡_}
 use mathlib.Core.List.{List, [], _∷_, _++_}
 use Prim.Native.Nat.{ℕ, suc, _<_}
-use Rattle.refusal.specs.declared.Refusal.{Refusal}
 use Rattle.refusal.specs.declared.Refusal.the-variants as cause
 use Rattle.machine.specs.Object.{Object}
 use Rattle.machine.specs.Memory.{update}
@@ -13,6 +12,10 @@ pub record Operation : Type 0 where
   pub place : ℕ
   pub task : ℕ
   pub operation : ℕ
+
+-- One order extends another at its end.
+abbrev pub Extends : List Operation → List Operation → Type 0
+Extends xs zs = (ys : List Operation) × (zs ≡ xs ++ ys)
 
 -- A task's page: idle, waiting with an operation, or done with a response; the last two with a count of steps.
 pub data Page : Type 0 where

@@ -1,6 +1,6 @@
 -- What is said of a history, a list of calls with their answers: pending operations, points of rest, and linearizability.
 use mathlib.Core.Path.{_≡_}
-use mathlib.Core.Bool.{Bool, true, false}
+use mathlib.Core.Bool.{false}
 use mathlib.Core.List.{List, [], _∷_}
 use Prim.Native.Nat.{ℕ, zero, suc, _<_}
 use lib.Dec.{eqb}
@@ -74,6 +74,11 @@ abbrev pub replayed : Object → ℕ → List Operation → ℕ → ℕ
 replayed b q [] i = 0
 replayed b q (x ∷ xs) zero = b .outcome q (x .operation)
 replayed b q (x ∷ xs) (suc i) = replayed b (b .next q (x .operation)) xs i
+
+-- The state that replay of an order leads to from state q.
+abbrev pub reached : Object → ℕ → List Operation → ℕ
+reached b q [] = q
+reached b q (x ∷ xs) = reached b (b .next q (x .operation)) xs
 
 -- An order linearizes a history over the object from state q.
 pub record Linearizes (b : Object) (q : ℕ) (es : List Event) (order : List Operation) : Type 0 where

@@ -1,13 +1,12 @@
 -- The machine's own way to keep the plain book: who is entered before which call. It is a function of the run so far.
-use mathlib.Core.Bool.{Bool, true, false}
 use mathlib.Core.List.{List, [], _∷_}
 use Prim.Native.Nat.{ℕ, suc}
 use lib.Dec.{ltb}
 use Rattle.machine.specs.Object.{Object}
 use Rattle.machine.specs.Memory.{Memory, head-dec}
 use Rattle.machine.specs.Machine.{Phase, Idle, ReadOnly, Announce, Poll, LoadHead, LinkHead, LoadPriority, LoadOwn, Apply, ReloadApply, LoadHelped, LinkHelped, Validate, HandOver, ReloadHandOver, Release, ReloadRelease, ClearHead, ReloadClear, LoadExit, LinkExit, ClearExit, ReleaseExit, Retract, decided, pick}
-use Rattle.machine.specs.Run.{Config, Call, Begin, Step, Answer, Begun, Running, Ended, Refused, serve}
-use Rattle.machine.specs.Book.{Book, Page, Waiting, Done, turned, entered}
+use Rattle.machine.specs.Run.{Config, Call, Begin, Step, Answer, Begun, Running, Ended, Refused, start, serve}
+use Rattle.machine.specs.Book.{Book, Page, Waiting, Done, blank, turned, entered}
 
 -- A task is entered if it waits.
 abbrev pub enterPage : Object → ℕ → Page → Book → Book
@@ -74,3 +73,7 @@ keep b n place x c k = booked place x (serve b n x c .answer) (enterFor b n x c 
 abbrev pub bookAfter : Object → (n place : ℕ) → List Call → Config → Book → Book
 bookAfter b n place [] c k = k
 bookAfter b n place (x ∷ xs) c k = bookAfter b n (suc place) xs (serve b n x c .config) (keep b n place x c k)
+
+-- The book after a list of calls from the start in state q.
+abbrev pub bookOf : Object → (n q : ℕ) → List Call → Book
+bookOf b n q xs = bookAfter b n 0 xs (start q) (blank q)

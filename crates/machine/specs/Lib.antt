@@ -7,5 +7,8 @@ pub mod Run
 pub mod Book
 pub mod History
 pub mod Keeping
+pub mod Demand
 pub mod Invariant
+pub mod Points
+pub mod Form
 pub mod Potential

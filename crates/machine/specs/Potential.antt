@@ -1,6 +1,6 @@
 -- The potential of an operation: a bound of the own steps that it may still take, whatever the other tasks do.
 use mathlib.Core.Bool.{Bool, true, false, _||_, _&&_, not}
-use Prim.Native.Nat.{ℕ, zero, suc, _+_, _*_, _-_}
+use Prim.Native.Nat.{ℕ, zero, suc, _+_, _*_, _-_, _≤_, _<_}
 use native.Mathlib.Decide.{ℕ-discrete, decLe}
 use Rattle.machine.specs.Memory.{HeadValue, Free, Held, Content, Empty, Op, Resp, Cell, Memory, either, head-dec, announcement-dec}
 use Rattle.machine.specs.Machine.{Phase, Idle, ReadOnly, Announce, Poll, LoadHead, LinkHead, LoadPriority, LoadOwn, Apply, ReloadApply, LoadHelped, LinkHelped, Validate, HandOver, ReloadHandOver, Release, ReloadRelease, ClearHead, ReloadClear, LoadExit, LinkExit, ClearExit, ReleaseExit, Retract, Task, decided, pick}
@@ -221,15 +221,16 @@ counts (Approaching j) = false
 counts (Marking j) = true
 counts (Finishing j) = true
 
--- 2 while task t waits or holds the head, unless the task is one that works for this holder with its mark in the head.
-abbrev pub owed : (holder waits marked works : Bool) → ℕ
-owed holder waits marked works = pick ((waits || holder) && not (works && (holder && marked))) 2 0
+-- What is owed to task t: 2 while it waits or holds the head.
+abbrev pub owed : Memory → ℕ → ℕ
+owed m t = pick (waiting (content m t) || holds t (headValue m)) 2 0
 
--- How often task x can still change the announcement of t while a mark of p stands there.
+-- How often task x can still change the announcement of t while a mark of p stands there. One that works for the holder
+-- with its mark in the head owes nothing more.
 abbrev pub owes : Memory → (x t : ℕ) → Work → ℕ
 owes m x t w =
     pick (approaches t w) 2 (one (inAnnouncement m x t))
-    + owed (holds t (headValue m)) (waiting (content m t)) (inHead m x) (worksFor t w)
+    + pick (worksFor t w && (holds t (headValue m) && inHead m x)) 0 (owed m t)
 
 -- The part of the head: due while the own mark stands in it or the task holds it.
 abbrev pub atHead : Memory → ℕ → Bool
@@ -238,8 +239,8 @@ atHead m i = inHead m i || holds i (headValue m)
 abbrev pub headLoad : ℕ → Config → ℕ → ℕ
 headLoad n c i = ranks n c i + 1 + pick (unanswered (c .memory) (headValue (c .memory))) 9 0
 
-abbrev pub headPart : ℕ → Config → ℕ → Work → ℕ
-headPart n c i w = pick (atHead (c .memory) i) (headLoad n c i) 0 + pick (linking w) (9 * n + 1) 0
+abbrev pub headPart : ℕ → Config → ℕ → ℕ
+headPart n c i = pick (atHead (c .memory) i) (headLoad n c i) 0
 
 -- The part of the announcement of task t: due while the own mark stands in it.
 abbrev pub debts : ℕ → Config → (i t : ℕ) → ℕ
@@ -248,19 +249,26 @@ debts n c i t = sum n (but i (λ x. owes (c .memory) x t (row (c .task x .phase)
 abbrev pub markPart : ℕ → Config → (i t : ℕ) → ℕ
 markPart n c i t = pick (inAnnouncement (c .memory) i t) (1 + debts n c i t) 0
 
-abbrev pub announcementPart : ℕ → Config → ℕ → Work → ℕ
-announcementPart n c i Elsewhere = 0
-announcementPart n c i Linking = 4 * n + 1
-announcementPart n c i Passing = 0
-announcementPart n c i (Applying j) = 0
-announcementPart n c i (Approaching j) = 4 * n + 1
-announcementPart n c i (Marking j) = markPart n c i j
-announcementPart n c i (Finishing j) = 0
+-- What is set aside before the links of the head and of an announcement, by the parts that are due then.
+abbrev pub headAside : ℕ → Work → ℕ
+headAside n w = pick (linking w) (9 * n + 1) 0
+
+abbrev pub announcementAside : ℕ → (ℕ → ℕ) → Work → ℕ
+announcementAside n marks Elsewhere = 0
+announcementAside n marks Linking = 4 * n + 1
+announcementAside n marks Passing = 0
+announcementAside n marks (Applying j) = 0
+announcementAside n marks (Approaching j) = 4 * n + 1
+announcementAside n marks (Marking j) = marks j
+announcementAside n marks (Finishing j) = 0
+
+-- The own place, with the part of the head and the parts of the announcements.
+abbrev pub lasts : (n head : ℕ) → (ℕ → ℕ) → Memory → Row → ℕ
+lasts n head marks m r =
+    5 * (head + headAside n (r .work) + announcementAside n marks (r .work) + one (counts (r .work) && stale m (r .compared))) + r .position true
 
 abbrev pub answeredPotential : ℕ → Config → ℕ → ℕ
-answeredPotential n c i =
-    let r = row (c .task i .phase) in
-    5 * (headPart n c i (r .work) + announcementPart n c i (r .work) + one (counts (r .work) && stale (c .memory) (r .compared))) + r .position true
+answeredPotential n c i = lasts n (headPart n c i) (markPart n c i) (c .memory) (row (c .task i .phase))
 
 -- ---- The potential of the operation of task i
 
@@ -283,3 +291,7 @@ potentialBy n c i (Retracting v) a = announcedPotential n c i a
 
 abbrev pub potential : ℕ → Config → ℕ → ℕ
 potential n c i = potentialBy n c i (kind (c .task i .phase)) (content (c .memory) i)
+
+-- The own steps that an operation has taken, and those that it may still take, are within the bound.
+abbrev pub Bounded : ℕ → Config → Type 0
+Bounded n c = (t : ℕ) → t < n → c .task t .steps + potential n c t ≤ bound n

@@ -7,3 +7,13 @@ pub mod Parts
 pub mod Refused
 pub mod Local
 pub mod Started
+pub mod Tables
+pub mod EncodedCells
+pub mod Records
+pub mod Accesses
+pub mod Plans
+pub mod Nexts
+pub mod Simulation
+pub mod Starts
+pub mod Demands
+pub mod Theorem

@@ -23,19 +23,7 @@ use Rattle.stepping.specs.Record.{readRecord}
 use Rattle.stepping.specs.Step.{planOf, touched, leftOf, performOf, cellInForm, usedInRange}
 use Rattle.stepping.specs.Call.{admitOf, Stepped, refuseStep, touch, stepFrom, stepIn, stepTask}
 use Rattle.stepping.proofs.Lists.{set-alike}
-
--- ---- The access of a step, before a cell is looked at; a call that makes none counts as a read of the head
-
-abbrev accessFrom : List ℕ → Shape → ℕ → Task → PhaseRead → Access
-accessFrom file shape i t (record-phase.Refused c) = Read 0
-accessFrom file shape i t (record-phase.Known f) = planOf file shape i t f
-
-abbrev accessIn : List ℕ → (n i : ℕ) → Task → Admitted → Access
-accessIn file n i t (admitted.Refused c) = Read 0
-accessIn file n i t (admitted.Accepted shape c) = accessFrom file shape i t (readRecord shape n c t)
-
-unfoldable pub accessOf : List ℕ → (n i : ℕ) → Task → Access
-accessOf file n i t = accessIn file n i t (admitOf file n)
+use Rattle.stepping.specs.Statement.{accessFrom, accessIn, accessOf}
 
 -- ---- Any two lists of cells that agree on the touched cell
 

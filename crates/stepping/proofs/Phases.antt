@@ -1,11 +1,13 @@
 -- Which number has which phase, and the task that a phase works for.
 use mathlib.Core.Path.{_≡_, refl, sym, ap, subst, _∙_}
 use mathlib.Core.Bool.{Bool, true, false, cond, _&&_}
-use Prim.Native.Nat.{ℕ, zero, suc, _+_, _-_, _%_, _≤_, _<_}
+use mathlib.Core.List.{List, [], _∷_}
+use Prim.Native.Nat.{ℕ, zero, suc, _+_, _*_, _-_, _%_, _≤_, _<_}
 use native.Mathlib.Omega.{arith}
 use borrow.Author.Tests.{ne-eqb, le-leb, lt-leb, le-ltb, ltb-true, leb-true}
 use lib.Arith.{lt-of-le-ne}
 use lib.Dec.{eqb, leb, ltb}
+use lib.ListN.{length, getD}
 use Rattle.cells.proofs.Tests.{and-left, and-right}
 use Rattle.refusal.specs.declared.Refusal.the-variants as cause
 use Rattle.stepping.specs.declared.phase.Phase.{Phase}
@@ -42,33 +44,63 @@ WorksBelow n (ReloadHandOver j) = j < n
 WorksBelow n (Release j) = j < n
 WorksBelow n (ReloadRelease j) = j < n
 
--- The ranges of eight alone.
-abbrev ranges : ℕ → PhaseRead
-ranges k =
-    range k 16 Apply
-    (range k 24 ReloadApply
-    (range k 32 LoadHelped
-    (range k 40 LinkHelped
-    (range k 48 Validate
-    (range k 56 HandOver
-    (range k 64 ReloadHandOver
-    (range k 72 Release
-    (range k 80 ReloadRelease (Refused cause.Record)))))))))
+-- The phases that work for a task, in the order of their ranges.
+abbrev working : List (ℕ → Phase)
+working = Apply ∷ ReloadApply ∷ LoadHelped ∷ LinkHelped ∷ Validate ∷ HandOver ∷ ReloadHandOver ∷ Release ∷ ReloadRelease ∷ []
 
-past-singles : (k : ℕ) → 14 < k → phaseOf k ≡ ranges k
+-- Ranges of eight, one after the other.
+abbrev ranges : ℕ → ℕ → List (ℕ → Phase) → PhaseRead
+ranges k first [] = Refused cause.Record
+ranges k first (phase ∷ phases) = range k first phase (ranges k (first + 8) phases)
+
+-- From 15 on the single numbers are passed.
+past-singles : (k : ℕ) → 14 < k → phaseOf k ≡ ranges k 16 working
 unfolding phaseOf
-past-singles k h = simp (other 0 (omega arith), other 1 (omega arith), other 2 (omega arith), other 3 (omega arith), other 4 (omega arith), other 5 (omega arith), other 6 (omega arith), other 7 (omega arith), other 8 (omega arith), other 9 (omega arith), other 10 (omega arith), other 11 (omega arith), other 12 (omega arith), other 13 (omega arith), other 14 (omega arith))
+past-singles k h =
+    simp (
+      other 0 (omega arith),
+      other 1 (omega arith),
+      other 2 (omega arith),
+      other 3 (omega arith),
+      other 4 (omega arith),
+      other 5 (omega arith),
+      other 6 (omega arith),
+      other 7 (omega arith),
+      other 8 (omega arith),
+      other 9 (omega arith),
+      other 10 (omega arith),
+      other 11 (omega arith),
+      other 12 (omega arith),
+      other 13 (omega arith),
+      other 14 (omega arith),
+    )
   where
     other : (m : ℕ) → m < 15 → eqb k m ≡ false
     other m l = ne-eqb k m (λ e. omega arith)
 
--- One range of eight: its numbers, and those past its end.
+-- One range: its numbers, and those past its end.
 module _ (k first : ℕ) (phase : ℕ → Phase) (other : PhaseRead) where
   within : first ≤ k → k ≤ first + 7 → range k first phase other ≡ Known (phase (k - first))
   within l h = simp (le-leb first k l, le-leb k (first + 7) h)
 
   above : first + 7 < k → range k first phase other ≡ other
   above h = simp (le-leb first k (omega arith), lt-leb k (first + 7) h)
+
+-- The number of task j in range m.
+in-ranges : (phases : List (ℕ → Phase)) (k first m j : ℕ) → k ≡ first + 8 * m + j → j < 8 → m < length phases → ranges k first phases ≡ Known (getD phases m Apply j)
+in-ranges [] k first m j e h l = absurd (omega arith)
+in-ranges (phase ∷ phases) k first zero j e h l =
+    let place : k - first ≡ j = omega arith in
+    within k first phase _ (omega arith) (omega arith) ∙ ap (λ (x : ℕ). Known (phase x)) place
+in-ranges (phase ∷ phases) k first (suc m) j e h l =
+    above k first phase _ (omega arith) ∙ in-ranges phases k (first + 8) m j (omega arith) h (omega arith)
+
+past-ranges : (phases : List (ℕ → Phase)) (k first : ℕ) → first + 8 * length phases ≤ k → ranges k first phases ≡ Refused cause.Record
+past-ranges [] k first h = refl
+past-ranges (phase ∷ phases) k first h = above k first phase _ (omega arith) ∙ past-ranges phases k (first + 8) (omega arith)
+
+worker : (m j : ℕ) → m < 9 → j < 8 → phaseOf (16 + 8 * m + j) ≡ Known (getD working m Apply j)
+worker m j l h = past-singles (16 + 8 * m + j) (omega arith) ∙ in-ranges working (16 + 8 * m + j) 16 m j refl h l
 
 -- Every phase is the phase of its number.
 pub known : (f : Phase) → WorksBelow 8 f → phaseOf (phaseNumber f) ≡ Known f
@@ -88,19 +120,19 @@ known ReleaseExit h = refl
 known Retract h = refl
 known ClearHead h = refl
 known ReloadClear h = refl
-known (Apply j) h = past-singles (16 + j) (omega arith) ∙ within (16 + j) 16 Apply _ (omega arith) (omega arith) ∙ ap (λ (x : ℕ). Known (Apply x)) (omega arith)
-known (ReloadApply j) h = past-singles (24 + j) (omega arith) ∙ above (24 + j) 16 Apply _ (omega arith) ∙ within (24 + j) 24 ReloadApply _ (omega arith) (omega arith) ∙ ap (λ (x : ℕ). Known (ReloadApply x)) (omega arith)
-known (LoadHelped j) h = past-singles (32 + j) (omega arith) ∙ above (32 + j) 16 Apply _ (omega arith) ∙ above (32 + j) 24 ReloadApply _ (omega arith) ∙ within (32 + j) 32 LoadHelped _ (omega arith) (omega arith) ∙ ap (λ (x : ℕ). Known (LoadHelped x)) (omega arith)
-known (LinkHelped j) h = past-singles (40 + j) (omega arith) ∙ above (40 + j) 16 Apply _ (omega arith) ∙ above (40 + j) 24 ReloadApply _ (omega arith) ∙ above (40 + j) 32 LoadHelped _ (omega arith) ∙ within (40 + j) 40 LinkHelped _ (omega arith) (omega arith) ∙ ap (λ (x : ℕ). Known (LinkHelped x)) (omega arith)
-known (Validate j) h = past-singles (48 + j) (omega arith) ∙ above (48 + j) 16 Apply _ (omega arith) ∙ above (48 + j) 24 ReloadApply _ (omega arith) ∙ above (48 + j) 32 LoadHelped _ (omega arith) ∙ above (48 + j) 40 LinkHelped _ (omega arith) ∙ within (48 + j) 48 Validate _ (omega arith) (omega arith) ∙ ap (λ (x : ℕ). Known (Validate x)) (omega arith)
-known (HandOver j) h = past-singles (56 + j) (omega arith) ∙ above (56 + j) 16 Apply _ (omega arith) ∙ above (56 + j) 24 ReloadApply _ (omega arith) ∙ above (56 + j) 32 LoadHelped _ (omega arith) ∙ above (56 + j) 40 LinkHelped _ (omega arith) ∙ above (56 + j) 48 Validate _ (omega arith) ∙ within (56 + j) 56 HandOver _ (omega arith) (omega arith) ∙ ap (λ (x : ℕ). Known (HandOver x)) (omega arith)
-known (ReloadHandOver j) h = past-singles (64 + j) (omega arith) ∙ above (64 + j) 16 Apply _ (omega arith) ∙ above (64 + j) 24 ReloadApply _ (omega arith) ∙ above (64 + j) 32 LoadHelped _ (omega arith) ∙ above (64 + j) 40 LinkHelped _ (omega arith) ∙ above (64 + j) 48 Validate _ (omega arith) ∙ above (64 + j) 56 HandOver _ (omega arith) ∙ within (64 + j) 64 ReloadHandOver _ (omega arith) (omega arith) ∙ ap (λ (x : ℕ). Known (ReloadHandOver x)) (omega arith)
-known (Release j) h = past-singles (72 + j) (omega arith) ∙ above (72 + j) 16 Apply _ (omega arith) ∙ above (72 + j) 24 ReloadApply _ (omega arith) ∙ above (72 + j) 32 LoadHelped _ (omega arith) ∙ above (72 + j) 40 LinkHelped _ (omega arith) ∙ above (72 + j) 48 Validate _ (omega arith) ∙ above (72 + j) 56 HandOver _ (omega arith) ∙ above (72 + j) 64 ReloadHandOver _ (omega arith) ∙ within (72 + j) 72 Release _ (omega arith) (omega arith) ∙ ap (λ (x : ℕ). Known (Release x)) (omega arith)
-known (ReloadRelease j) h = past-singles (80 + j) (omega arith) ∙ above (80 + j) 16 Apply _ (omega arith) ∙ above (80 + j) 24 ReloadApply _ (omega arith) ∙ above (80 + j) 32 LoadHelped _ (omega arith) ∙ above (80 + j) 40 LinkHelped _ (omega arith) ∙ above (80 + j) 48 Validate _ (omega arith) ∙ above (80 + j) 56 HandOver _ (omega arith) ∙ above (80 + j) 64 ReloadHandOver _ (omega arith) ∙ above (80 + j) 72 Release _ (omega arith) ∙ within (80 + j) 80 ReloadRelease _ (omega arith) (omega arith) ∙ ap (λ (x : ℕ). Known (ReloadRelease x)) (omega arith)
+known (Apply j) h = worker 0 j (omega arith) h
+known (ReloadApply j) h = worker 1 j (omega arith) h
+known (LoadHelped j) h = worker 2 j (omega arith) h
+known (LinkHelped j) h = worker 3 j (omega arith) h
+known (Validate j) h = worker 4 j (omega arith) h
+known (HandOver j) h = worker 5 j (omega arith) h
+known (ReloadHandOver j) h = worker 6 j (omega arith) h
+known (Release j) h = worker 7 j (omega arith) h
+known (ReloadRelease j) h = worker 8 j (omega arith) h
 
 -- Past the last range there is no phase.
 pub unknown : (k : ℕ) → 87 < k → phaseOf k ≡ Refused cause.Record
-unknown k h = past-singles k (omega arith) ∙ above k 16 Apply _ (omega arith) ∙ above k 24 ReloadApply _ (omega arith) ∙ above k 32 LoadHelped _ (omega arith) ∙ above k 40 LinkHelped _ (omega arith) ∙ above k 48 Validate _ (omega arith) ∙ above k 56 HandOver _ (omega arith) ∙ above k 64 ReloadHandOver _ (omega arith) ∙ above k 72 Release _ (omega arith) ∙ above k 80 ReloadRelease _ (omega arith)
+unknown k h = past-singles k (omega arith) ∙ past-ranges working k 16 (omega arith)
 
 -- A number of a range is the range's start and the number of a task.
 pub placed : (first k : ℕ) → first ≤ k → k < first + 8 → (k ≡ first + (k - first)) × (k - first < 8)

@@ -58,7 +58,7 @@ pub struct Step {
     pub answer: Answer,
 }
 
-// The tests of a file whose causes gave this answer, then cause 5 on the number of records.
+// Cause 5 on the number of records, after what the test of the file answered.
 fn with_row(tasks: usize, checked: Checked) -> Admitted
     ensures { λ r. ⌜ r ≡ withRow tasks checked ⌝ }
 {

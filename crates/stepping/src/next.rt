@@ -74,7 +74,7 @@ fn end(response: u16) -> Next
     Next::End { response }
 }
 
-// By what the own announcement holds.
+// By the own announcement: a response leads to the exit.
 fn after_poll(found: Announcement) -> Next
     ensures { λ r. ⌜ r ≡ afterPoll found ⌝ }
 {
@@ -99,6 +99,7 @@ fn after_link(word: u64, found: Head) -> Next
     }
 }
 
+// A link of the head that fails starts the loop again.
 fn after_link_head(task: usize, own: Task, made: bool) -> Next
     ensures { λ r. ⌜ r ≡ cond made (afterLink (addMark task (own .head)) (headOf (own .head))) (bare Phase.Poll) ⌝ }
 {
@@ -108,6 +109,7 @@ fn after_link_head(task: usize, own: Task, made: bool) -> Next
     after_link(marks::add_mark(own.head, task), head::read_head(own.head))
 }
 
+// By the announcement of the task that is helped first: its operation is applied.
 fn after_priority(own: Task, found: Announcement) -> Next
     requires { ⌜ own .priority < 256 ⌝ }
     ensures { λ r. ⌜ r ≡ afterPriority (own .head) (own .priority) found ⌝ }
@@ -126,6 +128,7 @@ fn after_priority(own: Task, found: Announcement) -> Next
     }
 }
 
+// By the own announcement, with the head linked: the own operation is applied.
 fn after_own(task: usize, own: Task, found: Announcement) -> Next
     requires { ⌜ task < 256 ⌝ }
     ensures { λ r. ⌜ r ≡ afterOwn (own .head) task found ⌝ }
@@ -156,6 +159,7 @@ fn after_load_exit(task: usize, own: Task, word: u64) -> Next
     go(Phase::Retract, own.payload, 0, 0)
 }
 
+// The exit links a head that the task holds, to clear it.
 fn after_link_exit(task: usize, own: Task, made: bool) -> Next
     ensures { λ r. ⌜ r ≡ cond made (Next.Go Phase.ClearExit (own .payload) (addMark task (own .head)) 0) (withResponse Phase.LoadExit (own .payload)) ⌝ }
 {
@@ -180,6 +184,7 @@ fn after_leave(own: Task, made: bool) -> Next
     go(Phase::LoadExit, own.payload, 0, 0)
 }
 
+// A head that was not cleared is read again.
 fn after_clear(own: Task, made: bool) -> Next
     ensures { λ r. ⌜ r ≡ cond made (bare Phase.Poll) (withHead Phase.ReloadClear (own .head)) ⌝ }
 {
@@ -199,6 +204,7 @@ fn after_reload(task: usize, again: Phase, payload: u32, word: u64) -> Next
     to(Phase::Poll)
 }
 
+// An applied operation gives the turn to the next task.
 fn after_apply(own: Task, helped: u8, made: bool) -> Next
     ensures { λ r. ⌜ r ≡ cond made Next.Turn (Next.Go (Phase.ReloadApply helped) (own .payload) (own .head) 0) ⌝ }
 {
@@ -218,6 +224,7 @@ fn after_linked(own: Task, helped: u8, linked: u64) -> Next
     go(Phase::Validate(helped), 0, own.head, linked)
 }
 
+// A link of the helped announcement that fails starts the loop again.
 fn after_link_helped(task: usize, own: Task, helped: u8, made: bool) -> Next
     ensures { λ r. ⌜ r ≡ cond made (afterLinkHelped (own .head) helped (addMark task (own .announcement)) (announcementOf (own .announcement))) (bare Phase.Poll) ⌝ }
 {
@@ -227,6 +234,7 @@ fn after_link_helped(task: usize, own: Task, helped: u8, made: bool) -> Next
     after_linked(own, helped, marks::add_mark(own.announcement, task))
 }
 
+// The response is handed over only while the own mark stands in the head.
 fn after_validate(task: usize, own: Task, helped: u8, word: u64) -> Next
     ensures { λ r. ⌜ r ≡ cond (hasMark task word) (withBoth (Phase.HandOver helped) (own .head) (own .announcement)) (withBoth (Phase.Release helped) (own .head) (own .announcement)) ⌝ }
 {

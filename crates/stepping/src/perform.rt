@@ -1,4 +1,4 @@
-// The one access of a step, the tests of what it uses, and the access itself.
+// The access of a step: the cell that it touches, the tests of cell and entry, and the access itself.
 use crate::access::Access;
 use crate::access::Found;
 use crate::phase::Phase;

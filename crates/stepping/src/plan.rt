@@ -21,12 +21,14 @@ fn announcement_of(task: usize) -> usize
     task + 1
 }
 
+// A read of the head.
 fn read_head() -> Access
     ensures { λ r. ⌜ r ≡ readHead ⌝ }
 {
     Access::Read { cell: HEAD }
 }
 
+// A read of a task's announcement.
 fn read_announcement(task: usize) -> Access
     requires { ⌜ task < 65536 ⌝ }
     ensures { λ r. ⌜ r ≡ readAnnouncement task ⌝ }
@@ -36,6 +38,7 @@ fn read_announcement(task: usize) -> Access
     }
 }
 
+// A write of a task's announcement.
 fn write_announcement(task: usize, written: u64) -> Access
     requires { ⌜ task < 65536 ⌝ }
     ensures { λ r. ⌜ r ≡ Access.Write (task + 1) written ⌝ }
@@ -46,6 +49,7 @@ fn write_announcement(task: usize, written: u64) -> Access
     }
 }
 
+// A swap of the head, compared with the saved one.
 fn swap_head(own: Task, written: u64) -> Access
     ensures { λ r. ⌜ r ≡ swapHead own written ⌝ }
 {
@@ -56,6 +60,7 @@ fn swap_head(own: Task, written: u64) -> Access
     }
 }
 
+// A swap of a task's announcement, compared with the saved one.
 fn swap_announcement(task: u8, own: Task, written: u64) -> Access
     ensures { λ r. ⌜ r ≡ swapAnnouncement task own written ⌝ }
 {
@@ -66,6 +71,7 @@ fn swap_announcement(task: u8, own: Task, written: u64) -> Access
     }
 }
 
+// The swap that applies the payload's operation for a task.
 fn applied(file: &[u8], shape: Shape, own: Task, task: u8) -> Access
     ensures { λ r. ⌜ r ≡ planOf (now (file .entry)) shape 0 own (Phase.Apply task) ⌝ }
 {

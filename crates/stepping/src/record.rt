@@ -26,9 +26,10 @@ pub struct Task {
     pub phase: u32,
 }
 
-// The numbers from which on phases name a task, and from which on they do more than apply.
+// From this number on the phases name a task.
 const FIRST_NAMING: u32 = 16;
 
+// Up to this number the phases that name a task apply its operation.
 const LAST_APPLYING: u32 = 31;
 
 // The record of an idle task, which keeps its priority alone.

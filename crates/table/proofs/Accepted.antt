@@ -1,17 +1,16 @@
 -- What an accepted table promises to the calls that use it.
 use Prim.Native.Nat.{ℕ, _<_}
-use mathlib.Core.Path.{_≡_, refl, sym, ap, _∙_}
-use mathlib.Core.Bool.{Bool, true, false, cond}
+use mathlib.Core.Path.{_≡_, sym, ap, _∙_}
+use mathlib.Core.Bool.{true}
 use mathlib.Core.List.{List}
-use native.Mathlib.Omega.{arith}
 use borrow.Author.Tests.{ltb-true, lt-ltb}
 use Rattle.refusal.specs.declared.Refusal.the-variants.{Entry}
 use Rattle.table.specs.declared.Shape.{Shape}
 use Rattle.table.specs.declared.Checked.{Checked}
 use Rattle.table.specs.declared.Checked.the-variants.{Accepted, Refused}
-use Rattle.table.specs.Below.{all-at, all-of}
+use Rattle.table.specs.Below.{all-at}
 use Rattle.table.specs.File.{byteAt}
-use Rattle.table.specs.Entries.{entryPlace, entryOf, entryInRange, operationInRange, entriesInRange}
+use Rattle.table.specs.Entries.{entryOf, entryInRange, operationInRange, entriesInRange}
 use Rattle.table.specs.Layout.{layoutOf}
 use Rattle.table.specs.Check.{withEntries, checkOf}
 use Rattle.table.proofs.Fitting.{Fitting, layout-fitting, taken, refused}

@@ -3,7 +3,7 @@ use Prim.Native.Nat.{ℕ, _<_}
 use mathlib.Core.Path.{_≡_}
 use mathlib.Core.Bool.{true, false}
 use mathlib.Core.List.{List}
-use borrow.Author.Tests.{eqb-true, eqb-false, not-true, not-false, eq-eqb}
+use borrow.Author.Tests.{eqb-true, eqb-false, not-true, not-false}
 use Rattle.table.specs.declared.Shape.{Shape}
 use Rattle.table.specs.Below.{any-at, none-at}
 use Rattle.table.specs.Entries.{entryOf, changing}

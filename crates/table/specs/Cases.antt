@@ -1,8 +1,8 @@
--- Document 01, "Cases": the marked cases about the object file, as one table. The case of the row's records stands with
--- the row, those of the image, the forms and the ceiling with the cells.
+-- Document 01, "Cases": the marked cases about the object file, as one table. The other marked cases need later
+-- definitions: 8 and 9 records stand with the row; the image, the two heads and the ceiling with the cells.
 use Prim.Native.Nat.{ℕ, _*_, _/_, _%_}
 use mathlib.Core.Path.{_≡_, refl}
-use mathlib.Core.Bool.{Bool, cond}
+use mathlib.Core.Bool.{cond}
 use mathlib.Core.List.{List, [], _∷_, _++_, map}
 use lib.ListN.{replicate, drop, set}
 use Rattle.table.specs.Below.{allBelow, anyBelow}

@@ -44,12 +44,14 @@ pub struct Entry {
     pub response: u16,
 }
 
+// A byte of the file, 0 past its end.
 fn byte_at(file: &[u8], at: usize) -> u8
     ensures { λ r. ⌜ r ≡ byteAt (now (file .entry)) at ⌝ }
 {
     if at < file.len() { file[at] } else { 0 }
 }
 
+// A byte as a wider number.
 fn wide(byte: u8) -> u16
     ensures { λ r. ⌜ r ≡ byte ⌝ }
 {
@@ -63,6 +65,7 @@ fn product(a: u16, b: u16) -> usize
     (a as usize) * (b as usize)
 }
 
+// A number of two bytes, the low byte first.
 fn number_at(file: &[u8], at: usize) -> u16
     requires { ⌜ at < 2 ^ 63 ⌝ }
     ensures { λ r. ⌜ r ≡ number16 (now (file .entry)) at ⌝ }
@@ -115,7 +118,7 @@ pub fn read_shape(file: &[u8]) -> Shape
     }
 }
 
-// Whether the file is neither too short nor too long and ends in the mark: cause 1 fails to hold.
+// Whether the file is neither too short nor too long and ends in the mark: cause 1 does not hold.
 fn file_fits(file: &[u8]) -> bool
     ensures { λ r. ⌜ r ≡ fileFits (now (file .entry)) ⌝ }
 {
@@ -128,7 +131,7 @@ fn file_fits(file: &[u8]) -> bool
     ends_in_mark(file)
 }
 
-// Whether states, operations and start state are in range: cause 2 fails to hold.
+// Whether states, operations and start state are in range: cause 2 does not hold.
 fn dimensions_fit(shape: Shape) -> bool
     ensures { λ r. ⌜ r ≡ dimensionsFit shape ⌝ }
 {
@@ -149,7 +152,7 @@ fn dimensions_fit(shape: Shape) -> bool
     shape.start < states
 }
 
-// Whether the offset is in range and text, entries and trailer make up the length: cause 3 fails to hold.
+// Whether the offset is in range and text, entries and trailer make up the length: cause 3 does not hold.
 fn length_fits(length: usize, shape: Shape) -> bool
     ensures { λ r. ⌜ r ≡ lengthFits length shape ⌝ }
 {
@@ -190,7 +193,7 @@ pub fn read_entry(file: &[u8], shape: Shape, state: u16, operation: u16) -> Entr
     }
 }
 
-// Whether one entry's next state is one of the table's states: cause 4 on this entry fails to hold.
+// Whether one entry's next state is one of the table's states: cause 4 does not hold on it.
 pub fn entry_in_range(file: &[u8], shape: Shape, state: u16, operation: u16) -> bool
     ensures { λ r. ⌜ r ≡ entryInRange (now (file .entry)) shape state operation ⌝ }
 {
@@ -198,7 +201,7 @@ pub fn entry_in_range(file: &[u8], shape: Shape, state: u16, operation: u16) -> 
     entry.next < shape.states
 }
 
-// Whether cause 4 fails to hold on one operation's entries.
+// Whether cause 4 holds on none of one operation's entries.
 pub fn operation_in_range(file: &[u8], shape: Shape, operation: u16) -> bool
     ensures { λ r. ⌜ r ≡ operationInRange (now (file .entry)) shape operation ⌝ }
 {
@@ -213,7 +216,7 @@ pub fn operation_in_range(file: &[u8], shape: Shape, operation: u16) -> bool
     true
 }
 
-// Whether cause 4 fails to hold on all entries.
+// Whether cause 4 holds on no entry.
 pub fn entries_in_range(file: &[u8], shape: Shape) -> bool
     ensures { λ r. ⌜ r ≡ entriesInRange (now (file .entry)) shape ⌝ }
 {

@@ -1,7 +1,10 @@
 -- The three tests follow each other as in the definition.
-use mathlib.Core.Path.{sym}
+use mathlib.Core.Path.{_≡_, sym}
+use mathlib.Core.Bool.{cond}
 use borrow.Author.Tests.{not-true, not-false}
 use borrow.Author.Needs.{needs}
+use Rattle.refusal.specs.declared.Refusal.the-variants.{Length}
+use Rattle.table.specs.declared.Checked.the-variants.{Accepted, Refused}
 use Rattle.table.specs.Layout.{layoutOf}
 use Rattle.table.proofs.check_layout.Statement.{statement}
 use Rattle.table.proofs.check_layout.Tie as tie
@@ -29,19 +32,19 @@ returns-2 c =
 length-fits-requires : tie.Need-length-fits-requires
 length-fits-requires c κs = search needs
 
-returns-3 : tie.Need-returns-3
+-- After the third test: the first two have passed, and the third decides.
+third : (c : tie.After-length-fits) → layoutOf (c .before .before .before .before .before .before .before .args .file .now) ≡ cond (c .length-fits .result) (Accepted (c .before .before .before .read-shape .result)) (Refused Length)
 unfolding layoutOf
-returns-3 c =
-    let f = c .before .before .before .before .before in
-    let d = c .before .before in
-    simp (sym (f .before .file-fits .ensures), not-false (f .before .file-fits .result) (f .if1 .left), sym (d .before .before .read-shape .ensures), sym (d .before .dimensions-fit .ensures), not-false (d .before .dimensions-fit .result) (d .if2 .left), sym (c .before .length-fits .ensures), not-true (c .before .length-fits .result) (c .if3 .taken))
+third c =
+    let f = c .before .before .before .before in
+    let d = c .before in
+    simp (sym (f .before .file-fits .ensures), not-false (f .before .file-fits .result) (f .if1 .left), sym (d .before .before .read-shape .ensures), sym (d .before .dimensions-fit .ensures), not-false (d .before .dimensions-fit .result) (d .if2 .left), sym (c .length-fits .ensures))
+
+returns-3 : tie.Need-returns-3
+returns-3 c = simp (third (c .before), not-true (c .before .length-fits .result) (c .if3 .taken))
 
 returns-4 : tie.Need-returns-4
-unfolding layoutOf
-returns-4 c =
-    let f = c .before .before .before .before .before in
-    let d = c .before .before in
-    simp (sym (f .before .file-fits .ensures), not-false (f .before .file-fits .result) (f .if1 .left), sym (d .before .before .read-shape .ensures), sym (d .before .dimensions-fit .ensures), not-false (d .before .dimensions-fit .result) (d .if2 .left), sym (c .before .length-fits .ensures), not-false (c .before .length-fits .result) (c .if3 .left))
+returns-4 c = simp (third (c .before), not-false (c .before .length-fits .result) (c .if3 .left))
 
 pub check-layout-spec : {M : Type 1} → statement M
 check-layout-spec =

@@ -36,7 +36,8 @@ wide-requires-2 c κs = search needs
 
 returns : tie.Need-returns
 unfolding entryOf
-returns c = cc
+returns c =
+    simp (c .before .before .before .before .before .product .ensures .0, c .before .before .wide .ensures, c .before .before .before .byte-at .ensures, c .wide2 .ensures, c .before .byte-at2 .ensures)
 
 pub read-entry-spec : {M : Type 1} → statement M
 read-entry-spec =

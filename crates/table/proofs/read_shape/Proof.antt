@@ -48,7 +48,9 @@ number-at-requires-5 c κs = search needs
 
 returns : tie.Need-returns
 unfolding shapeOf
-returns c = cc
+returns c =
+    let half = c .before .before .before in
+    simp (half .before .before .trailer-at .ensures, half .before .number-at .ensures, half .number-at2 .ensures, c .before .before .number-at3 .ensures, c .before .number-at4 .ensures, c .number-at5 .ensures)
 
 pub read-shape-spec : {M : Type 1} → statement M
 read-shape-spec =

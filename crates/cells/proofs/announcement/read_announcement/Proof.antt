@@ -1,29 +1,22 @@
-use Rattle.cells.proofs.Fields.{unpack-places}
-use native.Mathlib.Omega.{arith}
-use borrow.Author.Tests.{eq-eqb, ne-eqb}
+use borrow.Author.Tests.{ne-eqb}
+use borrow.Author.Needs.{needs}
 use Rattle.cells.specs.Field.{unpackAt}
 use Rattle.cells.specs.Layout.{announcementOf, announcementWidths}
-use borrow.Author.Needs.{needs}
+use Rattle.cells.proofs.Fields.{unpack-places}
 use Rattle.cells.proofs.announcement.read_announcement.Statement.{statement}
 use Rattle.cells.proofs.announcement.read_announcement.Tie as tie
-use Rattle.cells.proofs.announcement.read_announcement.Reads as reads
-use Rattle.cells.proofs.announcement.read_announcement.Lts as lts
 
--- src/announcement.rt:28:19
 cast-payload : tie.Need-cast-payload
 cast-payload c = search needs
 
--- src/announcement.rt:24:1
 returns : tie.Need-returns
 unfolding announcementOf unpackAt
 returns c = rw (unpack-places announcementWidths (c .before .args .word)) (simp (c .match .keys1))
 
--- src/announcement.rt:24:1
 returns-2 : tie.Need-returns-2
 unfolding announcementOf unpackAt
 returns-2 c = rw (unpack-places announcementWidths (c .before .args .word)) (simp (c .match .keys2))
 
--- src/announcement.rt:24:1
 returns-3 : tie.Need-returns-3
 unfolding announcementOf unpackAt
 returns-3 c = rw (unpack-places announcementWidths (c .before .args .word)) (simp (ne-eqb _ _ (c .match .rest .0 .1), ne-eqb _ _ (c .match .rest .1)))

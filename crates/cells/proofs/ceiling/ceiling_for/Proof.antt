@@ -1,33 +1,27 @@
+use native.Mathlib.Omega.{arith}
 use borrow.Author.Tests.{le-leb, lt-leb}
-use Rattle.cells.specs.Ceiling.{ceilingOf}
 use borrow.Author.Needs.{needs}
+use Rattle.cells.specs.Ceiling.{ceilingOf}
 use Rattle.cells.proofs.ceiling.ceiling_for.Statement.{statement}
 use Rattle.cells.proofs.ceiling.ceiling_for.Tie as tie
-use Rattle.cells.proofs.ceiling.ceiling_for.Reads as reads
-use Rattle.cells.proofs.ceiling.ceiling_for.Lts as lts
 
--- src/ceiling.rt:19:9
 returns : tie.Need-returns
 unfolding ceilingOf
-returns c = simp (lt-leb _ _ (c .if1 .taken))
+returns c = simp (lt-leb 1 (c .before .args .tasks) (omega arith))
 
--- src/ceiling.rt:22:9
 returns-2 : tie.Need-returns-2
 unfolding ceilingOf
-returns-2 c = simp (le-leb _ _ (c .before .if1 .left), lt-leb _ _ (c .if2 .taken))
+returns-2 c = let n = c .before .before .args .tasks in simp (le-leb 1 n (omega arith), lt-leb n 8 (omega arith))
 
--- src/ceiling.rt:24:20
 mul-t7 : tie.Need-mul-t7
 mul-t7 c = search needs
 
--- src/ceiling.rt:24:20
 array-read-t10 : tie.Need-array-read-t10
 array-read-t10 c = search needs
 
--- src/ceiling.rt:15:1
 returns-3 : tie.Need-returns-3
 unfolding ceilingOf
-returns-3 c = simp (le-leb _ _ (c .before .if1 .left), le-leb _ _ (c .if2 .left))
+returns-3 c = let n = c .before .before .args .tasks in simp (le-leb 1 n (omega arith), le-leb n 8 (omega arith))
 
 pub ceiling-for-spec : {M : Type 1} → statement M
 ceiling-for-spec = tie.close (tie.spec returns returns-2 mul-t7 array-read-t10 returns-3)

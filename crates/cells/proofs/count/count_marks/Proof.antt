@@ -1,11 +1,10 @@
 use mathlib.Core.Path.{_≡_, refl, ap, _∙_}
-use Prim.Native.Nat.{_+_, _*_, _-_, _<_, _≤_}
+use Prim.Native.Nat.{_*_, _-_, _<_, _≤_}
 use native.Mathlib.Omega.{arith}
 use borrow.Author.Needs.{needs}
 use lib.ListN.{length, take, getD}
 use lib.Seq.{take-all}
-use Rattle.cells.specs.Count.{marksIn, markCount}
-use Rattle.cells.specs.Layout.{marksWidth}
+use Rattle.cells.specs.Count.{markCount}
 use Rattle.cells.proofs.Counts.{count-more, marks-in-most}
 use Rattle.cells.proofs.count.count_marks.Statement.{statement}
 use Rattle.cells.proofs.count.count_marks.Tie as tie

@@ -4,17 +4,13 @@ use Rattle.cells.specs.Layout.{marksWidth}
 use Rattle.cells.proofs.Counts.{count-ones, marks-at-most}
 use Rattle.cells.proofs.count.marks_in.Statement.{statement}
 use Rattle.cells.proofs.count.marks_in.Tie as tie
-use Rattle.cells.proofs.count.marks_in.Reads as reads
-use Rattle.cells.proofs.count.marks_in.Lts as lts
 
--- src/count.rt:10:5
-cast-result : tie.Need-cast-result
-cast-result c = omega (arith, count-ones marksWidth (c .args .word), marks-at-most marksWidth (c .args .word))
-
--- src/count.rt:7:1
 returns : tie.Need-returns
 unfolding marksIn
 returns c = count-ones marksWidth (c .args .word)
+
+cast-result : tie.Need-cast-result
+cast-result c = omega (arith, count-ones marksWidth (c .args .word), marks-at-most marksWidth (c .args .word))
 
 pub marks-in-spec : {M : Type 1} → statement M
 marks-in-spec = tie.close (tie.spec cast-result returns)

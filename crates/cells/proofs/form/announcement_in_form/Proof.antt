@@ -1,9 +1,8 @@
-use mathlib.Core.Bool.{true}
-use mathlib.Core.Path.{_≡_, refl, sym, _∙_}
+use mathlib.Core.Path.{_≡_, sym, _∙_}
 use borrow.Author.Needs.{needs}
 use borrow.Author.Tests.{lt-ltb, le-ltb, eq-eqb, ne-eqb, not-true, not-false}
 use Rattle.cells.specs.Field.{total, unpackAt}
-use Rattle.cells.specs.Form.{announcementInForm, announcementFieldsInForm, payloadInForm}
+use Rattle.cells.specs.Form.{inForm, announcementInForm, announcementFieldsInForm, payloadInForm}
 use Rattle.cells.specs.Layout.{announcementWidths}
 use Rattle.cells.proofs.Fields.{unpack-places}
 use Rattle.cells.proofs.form.announcement_in_form.Statement.{statement}
@@ -11,21 +10,21 @@ use Rattle.cells.proofs.form.announcement_in_form.Tie as tie
 
 -- After the first two tests the fields decide, each read by its place value.
 within : (c : tie.Else2) → let a = c .before .before .before .args in announcementInForm (a .operations) (a .tasks) (a .word) ≡ announcementFieldsInForm (a .operations) (unpackAt 1 announcementWidths (a .word))
-unfolding announcementInForm total
+unfolding announcementInForm inForm total
 within c =
     let small = lt-ltb _ _ (c .before .before .if1 .left) in
     let marked = sym (c .before .marks-in-form .ensures) ∙ not-false (c .before .marks-in-form .result) (c .if2 .left) in
     simp (small, marked, unpack-places announcementWidths (c .before .before .before .args .word))
 
 returns : tie.Need-returns
-unfolding announcementInForm total
+unfolding announcementInForm inForm total
 returns c = simp (le-ltb _ _ (c .if1 .taken))
 
 marks-in-form-requires : tie.Need-marks-in-form-requires
 marks-in-form-requires c κs = search needs
 
 returns-2 : tie.Need-returns-2
-unfolding announcementInForm total
+unfolding announcementInForm inForm total
 returns-2 c =
     let marked = sym (c .before .marks-in-form .ensures) ∙ not-true (c .before .marks-in-form .result) (c .if2 .taken) in
     simp (lt-ltb _ _ (c .before .before .if1 .left), marked)

@@ -1,9 +1,10 @@
-use mathlib.Core.Bool.{true}
-use mathlib.Core.Path.{_≡_, refl, sym, _∙_}
+use mathlib.Core.Path.{_≡_, sym, _∙_}
+use native.Mathlib.Omega.{arith}
 use borrow.Author.Needs.{needs}
 use borrow.Author.Tests.{lt-ltb, le-ltb, le-leb, lt-leb, eq-eqb, ne-eqb, not-true, not-false}
+use lib.ListN.{getD}
 use Rattle.cells.specs.Field.{total, unpackAt}
-use Rattle.cells.specs.Form.{headInForm, headFieldsInForm}
+use Rattle.cells.specs.Form.{holderBound, inForm, headInForm, headFieldsInForm}
 use Rattle.cells.specs.Layout.{headWidths}
 use Rattle.cells.proofs.Fields.{unpack-places}
 use Rattle.cells.proofs.form.head_in_form.Statement.{statement}
@@ -11,40 +12,55 @@ use Rattle.cells.proofs.form.head_in_form.Tie as tie
 
 -- After the first two tests the fields decide, each read by its place value.
 within : (c : tie.Else2) → let a = c .before .before .before .args in headInForm (a .states) (a .tasks) (a .word) ≡ headFieldsInForm (a .states) (a .tasks) (unpackAt 1 headWidths (a .word))
-unfolding headInForm total
+unfolding headInForm inForm total
 within c =
     let small = lt-ltb _ _ (c .before .before .if1 .left) in
     let marked = sym (c .before .marks-in-form .ensures) ∙ not-false (c .before .marks-in-form .result) (c .if2 .left) in
     simp (small, marked, unpack-places headWidths (c .before .before .before .args .word))
 
 returns : tie.Need-returns
-unfolding headInForm total
+unfolding headInForm inForm total
 returns c = simp (le-ltb _ _ (c .if1 .taken))
 
 marks-in-form-requires : tie.Need-marks-in-form-requires
 marks-in-form-requires c κs = search needs
 
 returns-2 : tie.Need-returns-2
-unfolding headInForm total
+unfolding headInForm inForm total
 returns-2 c =
     let marked = sym (c .before .marks-in-form .ensures) ∙ not-true (c .before .marks-in-form .result) (c .if2 .taken) in
     simp (lt-ltb _ _ (c .before .before .if1 .left), marked)
 
 returns-3 : tie.Need-returns-3
 unfolding headFieldsInForm unpackAt
-returns-3 c = rw (within (c .before)) (simp (le-ltb _ _ (c .if3 .taken)))
+returns-3 c =
+    let a = c .before .before .before .before .args in
+    let q = getD (unpackAt 1 headWidths (a .word)) 1 0 in
+    rw (within (c .before)) (simp (le-ltb q (a .states) (omega arith)))
 
 returns-4 : tie.Need-returns-4
 unfolding headFieldsInForm unpackAt
-returns-4 c = rw (within (c .before .before)) (simp (lt-ltb _ _ (c .before .if3 .left), lt-leb _ _ (c .if4 .taken)))
+returns-4 c =
+    let a = c .before .before .before .before .before .args in
+    let q = getD (unpackAt 1 headWidths (a .word)) 1 0 in
+    let h = getD (unpackAt 1 headWidths (a .word)) 3 0 in
+    rw (within (c .before .before)) (simp (lt-ltb q (a .states) (omega arith), lt-leb h (holderBound (a .tasks)) (omega arith)))
 
 returns-5 : tie.Need-returns-5
 unfolding headFieldsInForm unpackAt
-returns-5 c = rw (within (c .before .before .before)) (simp (lt-ltb _ _ (c .before .before .if3 .left), le-leb _ _ (c .before .if4 .left), eq-eqb _ _ (c .if5 .taken)))
+returns-5 c =
+    let a = c .before .before .before .before .before .before .args in
+    let q = getD (unpackAt 1 headWidths (a .word)) 1 0 in
+    let h = getD (unpackAt 1 headWidths (a .word)) 3 0 in
+    rw (within (c .before .before .before)) (simp (lt-ltb q (a .states) (omega arith), le-leb h (holderBound (a .tasks)) (omega arith), eq-eqb h 0 (omega arith)))
 
 returns-6 : tie.Need-returns-6
 unfolding headFieldsInForm unpackAt
-returns-6 c = rw (within (c .before .before .before)) (simp (lt-ltb _ _ (c .before .before .if3 .left), le-leb _ _ (c .before .if4 .left), ne-eqb _ _ (c .if5 .left)))
+returns-6 c =
+    let a = c .before .before .before .before .before .before .args in
+    let q = getD (unpackAt 1 headWidths (a .word)) 1 0 in
+    let h = getD (unpackAt 1 headWidths (a .word)) 3 0 in
+    rw (within (c .before .before .before)) (simp (lt-ltb q (a .states) (omega arith), le-leb h (holderBound (a .tasks)) (omega arith), ne-eqb h 0 (c .if5 .left)))
 
 pub head-in-form-spec : {M : Type 1} → statement M
 head-in-form-spec =

@@ -1,26 +1,20 @@
 use Prim.Native.Nat.{_%_, _^_, _<_}
 use native.Mathlib.Omega.{arith}
 use borrow.Author.Tests.{lt-ltb}
+use borrow.Author.Needs.{needs}
 use lib.Pow.{pow-mono}
 use Rattle.cells.specs.Form.{marksInForm}
 use Rattle.cells.specs.Layout.{markOf, marksWidth}
-use borrow.Author.Needs.{needs}
 use Rattle.cells.proofs.form.marks_in_form.Statement.{statement}
 use Rattle.cells.proofs.form.marks_in_form.Tie as tie
-use Rattle.cells.proofs.form.marks_in_form.Reads as reads
-use Rattle.cells.proofs.form.marks_in_form.Lts as lts
-use Rattle.cells.proofs.marks.mark_of.Reads as mark-of-reads
 
--- src/form.rt:20:36
 mark-of-requires : tie.Need-mark-of-requires
 mark-of-requires c κs = search needs
 
--- src/form.rt:20:9
 returns : tie.Need-returns
 unfolding marksInForm markOf
 returns c = rw (c .mark-of .ensures) (simp (lt-ltb _ _ (c .before .if1 .taken)))
 
--- src/form.rt:16:1
 returns-2 : tie.Need-returns-2
 unfolding marksInForm
 returns-2 c =

@@ -34,15 +34,31 @@ refuse-start-requires-2 c κs = search needs
 
 returns : tie.Need-returns
 unfolding admitStartOf
-returns c = simp (c .refuse-start2 .ensures, ne-eqb _ _ (c .before .if1 .taken), sym (c .before .before .before .before .before .with-row .ensures) ∙ c .before .before .before .admitted2 .given .1, sym (c .before .before .before .before .before .before .check .ensures))
+returns c =
+    simp (
+      c .refuse-start2 .ensures,
+      ne-eqb _ _ (c .before .if1 .taken),
+      sym (c .before .before .before .before .before .with-row .ensures) ∙ c .before .before .before .admitted2 .given .1,
+      sym (c .before .before .before .before .before .before .check .ensures),
+    )
 
 returns-2 : tie.Need-returns-2
 unfolding admitStartOf
-returns-2 c = simp (c .refuse-start .ensures, sym (c .before .before .before .before .with-row .ensures) ∙ c .before .before .admitted .given .1, sym (c .before .before .before .before .before .check .ensures))
+returns-2 c =
+    simp (
+      c .refuse-start .ensures,
+      sym (c .before .before .before .before .with-row .ensures) ∙ c .before .before .admitted .given .1,
+      sym (c .before .before .before .before .before .check .ensures),
+    )
 
 returns-3 : tie.Need-returns-3
 unfolding admitStartOf
-returns-3 c = simp (eq-eqb _ _ (c .if1 .left), sym (c .before .before .before .before .with-row .ensures) ∙ c .before .before .admitted2 .given .1, sym (c .before .before .before .before .before .check .ensures))
+returns-3 c =
+    simp (
+      eq-eqb _ _ (c .if1 .left),
+      sym (c .before .before .before .before .with-row .ensures) ∙ c .before .before .admitted2 .given .1,
+      sym (c .before .before .before .before .before .check .ensures),
+    )
 
 pub admit-start-spec : {M : Type 1} → statement M
 admit-start-spec =

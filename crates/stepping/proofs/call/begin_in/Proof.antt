@@ -30,7 +30,13 @@ refuse-begin-requires-3 : tie.Need-refuse-begin-requires-3
 refuse-begin-requires-3 c κs = search needs
 
 returns-3 : tie.Need-returns-3
-returns-3 c = simp (c .refuse-begin3 .ensures, sym (c .before .before .operation-in-range .ensures) ∙ not-true (c .before .before .operation-in-range .result) (c .before .if3 .taken), lt-ltb _ _ (c .before .before .before .if2 .left), lt-ltb _ _ (c .before .before .before .before .before .if1 .left))
+returns-3 c =
+    simp (
+      c .refuse-begin3 .ensures,
+      sym (c .before .before .operation-in-range .ensures) ∙ not-true (c .before .before .operation-in-range .result) (c .before .if3 .taken),
+      lt-ltb _ _ (c .before .before .before .if2 .left),
+      lt-ltb _ _ (c .before .before .before .before .before .if1 .left),
+    )
 
 read-record-requires : tie.Need-read-record-requires
 read-record-requires c κs = search needs
@@ -48,10 +54,24 @@ begin-from-requires : tie.Need-begin-from-requires
 begin-from-requires c κs = search needs
 
 returns-4 : tie.Need-returns-4
-returns-4 c = simp (c .refuse-begin4 .ensures, sym (c .before .before .before .before .read-record .ensures) ∙ c .before .before .read .given .1, sym (c .before .before .before .before .before .before .operation-in-range .ensures) ∙ not-false (c .before .before .before .before .before .before .operation-in-range .result) (c .before .before .before .before .before .if3 .left), lt-ltb _ _ (c .before .before .before .before .before .before .before .if2 .left), lt-ltb _ _ (c .before .before .before .before .before .before .before .before .before .if1 .left))
+returns-4 c =
+    simp (
+      c .refuse-begin4 .ensures,
+      sym (c .before .before .before .before .read-record .ensures) ∙ c .before .before .read .given .1,
+      sym (c .before .before .before .before .before .before .operation-in-range .ensures) ∙ not-false (c .before .before .before .before .before .before .operation-in-range .result) (c .before .before .before .before .before .if3 .left),
+      lt-ltb _ _ (c .before .before .before .before .before .before .before .if2 .left),
+      lt-ltb _ _ (c .before .before .before .before .before .before .before .before .before .if1 .left),
+    )
 
 returns-5 : tie.Need-returns-5
-returns-5 c = simp (c .begin-from .ensures, sym (c .before .before .before .read-record .ensures) ∙ c .before .enum-told .given .1, sym (c .before .before .before .before .before .operation-in-range .ensures) ∙ not-false (c .before .before .before .before .before .operation-in-range .result) (c .before .before .before .before .if3 .left), lt-ltb _ _ (c .before .before .before .before .before .before .if2 .left), lt-ltb _ _ (c .before .before .before .before .before .before .before .before .if1 .left))
+returns-5 c =
+    simp (
+      c .begin-from .ensures,
+      sym (c .before .before .before .read-record .ensures) ∙ c .before .enum-told .given .1,
+      sym (c .before .before .before .before .before .operation-in-range .ensures) ∙ not-false (c .before .before .before .before .before .operation-in-range .result) (c .before .before .before .before .if3 .left),
+      lt-ltb _ _ (c .before .before .before .before .before .before .if2 .left),
+      lt-ltb _ _ (c .before .before .before .before .before .before .before .before .if1 .left),
+    )
 
 pub begin-in-spec : {M : Type 1} → statement M
 begin-in-spec =

@@ -45,9 +45,13 @@ refuse-step-requires-2 c κs = search needs
 
 returns-2 : tie.Need-returns-2
 returns-2 c =
-    let s = c .before .before .before .before .before .before .before .before .before .before in
+    let t = c .before .before in
+    let p = t .before .before in
+    let s = p .before .before .before .before .before .before in
     refused (s .args .cells .now) (s .args .own) cause.Cell (c .refuse-step2 .result) (c .refuse-step2 .ensures)
-    ∙ cell-refused (s .args .file .now) (s .args .shape) (s .args .cells .now) (s .args .tasks) (s .args .task) (s .args .own) (s .args .phase) (c .before .before .before .before .before .plan .result) (c .before .before .before .before .touched-by .result) (c .before .before .before .before .before .before .if1 .left) (c .before .before .before .before .before .plan .ensures) (c .before .before .before .before .touched-by .ensures) (sym (c .before .before .cell-in-form .ensures) ∙ not-true (c .before .before .cell-in-form .result) (c .before .if2 .taken))
+    ∙ cell-refused (s .args .file .now) (s .args .shape) (s .args .cells .now) (s .args .tasks) (s .args .task) (s .args .own) (s .args .phase)
+    (p .before .plan .result) (p .touched-by .result) (p .before .before .if1 .left) (p .before .plan .ensures) (p .touched-by .ensures)
+    (sym (t .cell-in-form .ensures) ∙ not-true (t .cell-in-form .result) (c .before .if2 .taken))
 
 used-in-range-requires : tie.Need-used-in-range-requires
 used-in-range-requires c κs = search needs
@@ -57,10 +61,15 @@ refuse-step-requires-3 c κs = search needs
 
 returns-3 : tie.Need-returns-3
 returns-3 c =
-    let s = c .before .before .before .before .before .before .before .before .before .before .before .before in
-    let formed = sym (c .before .before .before .before .cell-in-form .ensures) ∙ not-false (c .before .before .before .before .cell-in-form .result) (c .before .before .before .if2 .left) in
+    let u = c .before .before in
+    let t = u .before .before in
+    let p = t .before .before in
+    let s = p .before .before .before .before .before .before in
+    let formed = sym (t .cell-in-form .ensures) ∙ not-false (t .cell-in-form .result) (u .before .if2 .left) in
     refused (s .args .cells .now) (s .args .own) cause.Entry (c .refuse-step3 .result) (c .refuse-step3 .ensures)
-    ∙ entry-refused (s .args .file .now) (s .args .shape) (s .args .cells .now) (s .args .tasks) (s .args .task) (s .args .own) (s .args .phase) (c .before .before .before .before .before .before .before .plan .result) (c .before .before .before .before .before .before .touched-by .result) (c .before .before .before .before .before .before .before .before .if1 .left) (c .before .before .before .before .before .before .before .plan .ensures) (c .before .before .before .before .before .before .touched-by .ensures) formed (sym (c .before .before .used-in-range .ensures) ∙ not-true (c .before .before .used-in-range .result) (c .before .if3 .taken))
+    ∙ entry-refused (s .args .file .now) (s .args .shape) (s .args .cells .now) (s .args .tasks) (s .args .task) (s .args .own) (s .args .phase)
+    (p .before .plan .result) (p .touched-by .result) (p .before .before .if1 .left) (p .before .plan .ensures) (p .touched-by .ensures)
+    formed (sym (u .used-in-range .ensures) ∙ not-true (u .used-in-range .result) (c .before .if3 .taken))
 
 perform-requires : tie.Need-perform-requires
 perform-requires c κs =
@@ -78,10 +87,19 @@ same-length c = search needs
 
 returns-4 : tie.Need-returns-4
 returns-4 c =
-    let s = c .before .before .before .before .before .before .before .before .before .before .before .before .before .before .before .before .before in
-    let formed = sym (c .before .before .before .before .before .before .before .before .before .cell-in-form .ensures) ∙ not-false (c .before .before .before .before .before .before .before .before .before .cell-in-form .result) (c .before .before .before .before .before .before .before .before .if2 .left) in
-    let used = sym (c .before .before .before .before .before .before .before .used-in-range .ensures) ∙ not-false (c .before .before .before .before .before .before .before .used-in-range .result) (c .before .before .before .before .before .before .if3 .left) in
-    accepted (s .args .file .now) (s .args .shape) (s .args .cells .now) (s .args .tasks) (s .args .task) (s .args .own) (s .args .phase) (c .before .before .before .before .before .before .before .before .before .before .before .before .plan .result) (c .before .before .before .before .before .before .before .before .before .before .before .touched-by .result) (c .before .before .before .before .before .before .before .before .before .before .before .before .before .if1 .left) (c .before .before .before .before .before .before .before .before .before .before .before .before .plan .ensures) (c .before .before .before .before .before .before .before .before .before .before .before .touched-by .ensures) formed used (c .before .before .before .before .perform .result) (c .before .next .result) _ (c .advance .result) (c .before .before .before .before .perform .ensures) (c .before .next .ensures) (c .advance .ensures)
+    let n = c .before in
+    let g = n .before .before .before in
+    let u = g .before .before .before in
+    let t = u .before .before in
+    let p = t .before .before in
+    let s = p .before .before .before .before .before .before in
+    let formed = sym (t .cell-in-form .ensures) ∙ not-false (t .cell-in-form .result) (u .before .if2 .left) in
+    let used = sym (u .used-in-range .ensures) ∙ not-false (u .used-in-range .result) (g .before .before .if3 .left) in
+    accepted (s .args .file .now) (s .args .shape) (s .args .cells .now) (s .args .tasks) (s .args .task) (s .args .own) (s .args .phase)
+    (p .before .plan .result) (p .touched-by .result) (p .before .before .if1 .left) (p .before .plan .ensures) (p .touched-by .ensures)
+    formed used
+    (g .perform .result) (n .next .result) _ (c .advance .result)
+    (g .perform .ensures) (n .next .ensures) (c .advance .ensures)
 
 pub step-from-spec : {M : Type 1} → statement M
 step-from-spec =

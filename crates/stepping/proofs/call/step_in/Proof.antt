@@ -50,14 +50,18 @@ step-from-requires c κs =
 
 returns-3 : tie.Need-returns-3
 returns-3 c =
-    let s = c .before .before .before .before .before .before .before .before .before in
-    refused (s .args .cells .now) (s .args .own) _ (c .refuse-step3 .result) (c .refuse-step3 .ensures) ∙ simp (eq-eqb _ _ (c .before .before .before .before .before .before .if1 .left), lt-ltb _ _ (c .before .before .before .before .before .if2 .left), sym (c .before .before .before .before .read-record .ensures) ∙ c .before .before .read .given .1)
+    let read = c .before .before .before .before in
+    let s = read .before .before .before .before .before in
+    refused (s .args .cells .now) (s .args .own) _ (c .refuse-step3 .result) (c .refuse-step3 .ensures)
+    ∙ simp (eq-eqb _ _ (read .before .before .if1 .left), lt-ltb _ _ (read .before .if2 .left), sym (read .read-record .ensures) ∙ c .before .before .read .given .1)
 
 same-length : tie.Need-same-length
 same-length c = search needs
 
 returns-4 : tie.Need-returns-4
-returns-4 c = simp (eq-eqb _ _ (c .before .before .before .before .before .before .before .before .before .if1 .left), lt-ltb _ _ (c .before .before .before .before .before .before .before .before .if2 .left), sym (c .before .before .before .before .before .before .before .read-record .ensures) ∙ c .before .before .before .before .before .read2 .given .1) (c .before .before .step-from .ensures)
+returns-4 c =
+    let read = c .before .before .before .before .before .before .before in
+    simp (eq-eqb _ _ (read .before .before .if1 .left), lt-ltb _ _ (read .before .if2 .left), sym (read .read-record .ensures) ∙ c .before .before .before .before .before .read2 .given .1) (c .before .before .step-from .ensures)
 
 pub step-in-spec : {M : Type 1} → statement M
 step-in-spec =

@@ -36,7 +36,10 @@ same-length c = search needs
 
 returns-2 : tie.Need-returns-2
 unfolding stepTask
-returns-2 c = simp (sym (c .before .before .before .before .before .before .before .admit .ensures) ∙ c .before .before .before .before .before .admitted2 .given .1) (c .before .before .step-in .ensures)
+returns-2 c =
+    simp
+    (sym (c .before .before .before .before .before .before .before .admit .ensures) ∙ c .before .before .before .before .before .admitted2 .given .1)
+    (c .before .before .step-in .ensures)
 
 pub step-task-spec : {M : Type 1} → statement M
 step-task-spec =

@@ -19,7 +19,13 @@ after-link-requires : tie.Need-after-link-requires
 after-link-requires c κs = search needs
 
 returns-2 : tie.Need-returns-2
-returns-2 c = simp (c .after-link .ensures, c .before .read-head .ensures, c .before .before .add-mark .ensures, not-false (c .before .before .before .before .args .made) (c .before .before .before .if1 .left))
+returns-2 c =
+    simp (
+      c .after-link .ensures,
+      c .before .read-head .ensures,
+      c .before .before .add-mark .ensures,
+      not-false (c .before .before .before .before .args .made) (c .before .before .before .if1 .left),
+    )
 
 pub after-link-head-spec : {M : Type 1} → statement M
 after-link-head-spec =

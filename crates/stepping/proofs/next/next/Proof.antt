@@ -180,7 +180,13 @@ returns-3 c = simp (c .to2 .ensures, c .before .enum-told3 .given .1)
 
 returns-4 : tie.Need-returns-4
 unfolding nextOf
-returns-4 c = simp (c .after-poll .ensures, c .before .read-announcement .ensures, c .before .before .enum-told4 .given .1, c .before .before .before .before .before .word-in .ensures)
+returns-4 c =
+    simp (
+      c .after-poll .ensures,
+      c .before .read-announcement .ensures,
+      c .before .before .enum-told4 .given .1,
+      c .before .before .before .before .before .word-in .ensures,
+    )
 
 returns-5 : tie.Need-returns-5
 unfolding nextOf
@@ -192,11 +198,23 @@ returns-6 c = simp (c .after-link-head .ensures, c .before .enum-told6 .given .1
 
 returns-7 : tie.Need-returns-7
 unfolding nextOf
-returns-7 c = simp (c .after-priority .ensures, c .before .read-announcement2 .ensures, c .before .before .enum-told7 .given .1, c .before .before .before .before .before .word-in .ensures)
+returns-7 c =
+    simp (
+      c .after-priority .ensures,
+      c .before .read-announcement2 .ensures,
+      c .before .before .enum-told7 .given .1,
+      c .before .before .before .before .before .word-in .ensures,
+    )
 
 returns-8 : tie.Need-returns-8
 unfolding nextOf
-returns-8 c = simp (c .after-own .ensures, c .before .read-announcement3 .ensures, c .before .before .enum-told8 .given .1, c .before .before .before .before .before .word-in .ensures)
+returns-8 c =
+    simp (
+      c .after-own .ensures,
+      c .before .read-announcement3 .ensures,
+      c .before .before .enum-told8 .given .1,
+      c .before .before .before .before .before .word-in .ensures,
+    )
 
 returns-9 : tie.Need-returns-9
 unfolding nextOf

@@ -35,7 +35,14 @@ returns : tie.Need-returns
 returns c = simp (c .entry-in-range .ensures, c .before .state-in .ensures, c .before .before .read-head .ensures, c .before .before .before .enum-told .given .1)
 
 returns-2 : tie.Need-returns-2
-returns-2 c = simp (c .entry-in-range2 .ensures, c .before .named-by .ensures, c .before .before .state-in2 .ensures, c .before .before .before .read-head2 .ensures, c .before .before .before .before .enum-told2 .given .1)
+returns-2 c =
+    simp (
+      c .entry-in-range2 .ensures,
+      c .before .named-by .ensures,
+      c .before .before .state-in2 .ensures,
+      c .before .before .before .read-head2 .ensures,
+      c .before .before .before .before .enum-told2 .given .1,
+    )
 
 returns-3 : tie.Need-returns-3
 returns-3 c =

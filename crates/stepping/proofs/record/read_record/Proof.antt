@@ -23,11 +23,19 @@ returns c = simp (sym (c .before .before .before .read-phase .ensures) ∙ c .be
 
 returns-2 : tie.Need-returns-2
 unfolding readRecord
-returns-2 c = simp (sym (c .before .record-in-form .ensures) ∙ c .if1 .taken, sym (c .before .before .before .before .before .read-phase .ensures) ∙ c .before .before .before .read2 .given .1)
+returns-2 c =
+    simp (
+      sym (c .before .record-in-form .ensures) ∙ c .if1 .taken,
+      sym (c .before .before .before .before .before .read-phase .ensures) ∙ c .before .before .before .read2 .given .1,
+    )
 
 returns-3 : tie.Need-returns-3
 unfolding readRecord
-returns-3 c = simp (sym (c .before .record-in-form .ensures) ∙ c .if1 .left, sym (c .before .before .before .before .before .read-phase .ensures) ∙ c .before .before .before .read2 .given .1)
+returns-3 c =
+    simp (
+      sym (c .before .record-in-form .ensures) ∙ c .if1 .left,
+      sym (c .before .before .before .before .before .read-phase .ensures) ∙ c .before .before .before .read2 .given .1,
+    )
 
 pub read-record-spec : {M : Type 1} → statement M
 read-record-spec =

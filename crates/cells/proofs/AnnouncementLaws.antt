@@ -1,0 +1,106 @@
+-- Laws of the announcement: decode after encode and back, injectivity, forms.
+use mathlib.Core.Path.{_≡_, refl}
+use mathlib.Core.Bool.{Bool, true, false, _&&_}
+use mathlib.Core.List.{[], _∷_}
+use Prim.Native.Nat.{ℕ, _/_, _%_, _^_, _<_}
+use borrow.Author.Tests.{eqb-true}
+use lib.Dec.{eqb, ltb}
+use lib.ListN.{getD}
+use Rattle.cells.specs.Field.{unpack, Fit}
+use Rattle.cells.specs.Form.{payloadInForm, announcementFieldsInForm, announcementInForm, announcementInRange}
+use Rattle.cells.specs.Layout.{marksWidth, kindWidth, gapWidth, payloadWidth, marks, value, announcementWidths, announcementValues, announcementAt, announcementFrom, announcementWord, announcementOf}
+use Rattle.cells.specs.MarkLaws.{SetsBit}
+use Rattle.cells.specs.declared.announcement.Announcement.{Announcement}
+use Rattle.cells.specs.declared.announcement.Announcement.the-variants.{Empty, Operation, Response}
+use Rattle.cells.proofs.Codec.{Codec, content-read, marks-read, word-injective}
+use Rattle.cells.proofs.Forms.{Formed, formed, form-of, Shape, written-form, form-whole, form-range, form-set}
+use Rattle.cells.proofs.Tests.{and-left, and-right}
+
+pub announcement-codec : Codec announcementValues announcementFrom
+announcement-codec = record { content-of = content; marks-of = lowest }
+  where
+    content : (x : Announcement) (m : ℕ) → announcementFrom (announcementValues x m) ≡ x
+    content Empty m = refl
+    content (Operation o) m = refl
+    content (Response r) m = refl
+
+    lowest : (x : Announcement) (m : ℕ) → getD (announcementValues x m) 0 0 ≡ m
+    lowest Empty m = refl
+    lowest (Operation o) m = refl
+    lowest (Response r) m = refl
+
+-- The fields of an announcement pass the test exactly if it is in range.
+announcement-ranged : (o : ℕ) (x : Announcement) (m : ℕ) → announcementFieldsInForm o (announcementValues x m) ≡ announcementInRange o x
+unfolding announcementFieldsInForm payloadInForm
+announcement-ranged o Empty m = refl
+announcement-ranged o (Operation p) m = refl
+announcement-ranged o (Response r) m = refl
+
+-- Fields that pass the test are those of the announcement that they say.
+announcement-again : (o m k g p : ℕ) → announcementFieldsInForm o (m ∷ k ∷ g ∷ p ∷ []) ≡ true → announcementValues (announcementAt k p) m ≡ m ∷ k ∷ g ∷ p ∷ []
+unfolding announcementFieldsInForm payloadInForm
+announcement-again o m k g p t = at (eqb k 0) refl (eqb k 1) refl
+  where
+    gap : g ≡ 0
+    gap = eqb-true g 0 (and-left (eqb g 0) (payloadInForm o k p) t)
+
+    carried : payloadInForm o k p ≡ true
+    carried = and-right (eqb g 0) (payloadInForm o k p) t
+
+    at : (a : Bool) → eqb k 0 ≡ a → (b : Bool) → eqb k 1 ≡ b → announcementValues (announcementAt k p) m ≡ m ∷ k ∷ g ∷ p ∷ []
+    at true e b d =
+        let none : k ≡ 0 = eqb-true k 0 e in
+        let quiet : p ≡ 0 = eqb-true p 0 (rw e at carried) in
+        simp (none, gap, quiet)
+    at false e true d = let one : k ≡ 1 = eqb-true k 1 d in simp (one, gap)
+    at false e false d = let two : k ≡ 2 = eqb-true k 2 (rw (e, d) at carried) in simp (two, gap)
+
+-- The announcement's form, with any widths of kind, gap and payload.
+pub announcement-shape : (b c d o : ℕ) → Shape announcementValues announcementFrom (b ∷ c ∷ d ∷ []) (announcementFieldsInForm o) (announcementInRange o)
+unfolding announcementFieldsInForm unpack
+announcement-shape b c d o = record { codec = announcement-codec; ranged = announcement-ranged o; blind = λ m k vs. refl; again = again }
+  where
+    again : (w : ℕ) → announcementFieldsInForm o (unpack (marksWidth ∷ b ∷ c ∷ d ∷ []) w) ≡ true → announcementValues (announcementFrom (unpack (marksWidth ∷ b ∷ c ∷ d ∷ []) w)) (marks w) ≡ unpack (marksWidth ∷ b ∷ c ∷ d ∷ []) w
+    again w t = announcement-again o (marks w) (value w % 2 ^ b) (value w / 2 ^ b % 2 ^ c) (value w / 2 ^ b / 2 ^ c % 2 ^ d) t
+
+-- An announcement is read as it was written, and its word has its marks; different ones have different words.
+module _ (x : Announcement) (m : ℕ) (f : Fit announcementWidths (announcementValues x m)) where
+  pub announcement-decode : announcementOf (announcementWord x m) ≡ x
+  unfolding announcementOf announcementWord
+  announcement-decode = content-read announcement-codec announcementWidths x m f
+
+  pub announcement-marks : marks (announcementWord x m) ≡ m
+  unfolding announcementWord unpack
+  announcement-marks = marks-read announcement-codec announcementWidths x m f
+
+  pub announcement-injective : (y : Announcement) (k : ℕ) → Fit announcementWidths (announcementValues y k) → announcementWord x m ≡ announcementWord y k → (x ≡ y) × (m ≡ k)
+  unfolding announcementWord
+  announcement-injective y k g = word-injective announcement-codec announcementWidths x y m k f g
+
+  -- It is in form exactly if the announcement is in range and the marks are those of tasks below n.
+  pub announcement-form : (o n : ℕ) → announcementInForm o n (announcementWord x m) ≡ (ltb m (2 ^ n) && announcementInRange o x)
+  unfolding announcementWord announcementInForm
+  announcement-form o n = written-form (announcement-shape kindWidth gapWidth payloadWidth o) n x m f
+
+-- An announcement depends on the value of its word alone.
+pub announcement-of-value : (v w : ℕ) → value v ≡ value w → announcementOf v ≡ announcementOf w
+unfolding announcementOf unpack
+announcement-of-value v w e = rw e
+
+-- A word in form is its announcement with its marks; it is in range; and link and release keep the form.
+module _ (o n w : ℕ) (e : announcementInForm o n w ≡ true) where
+  pub announcement-formed : Formed announcementWidths (announcementFieldsInForm o) n w
+  unfolding announcementInForm
+  announcement-formed = formed announcementWidths (announcementFieldsInForm o) n w e
+
+  pub announcement-whole : announcementWord (announcementOf w) (marks w) ≡ w
+  unfolding announcementWord announcementOf
+  announcement-whole = form-whole (announcement-shape kindWidth gapWidth payloadWidth o) n w announcement-formed
+
+  pub announcement-range : announcementInRange o (announcementOf w) ≡ true
+  unfolding announcementOf
+  announcement-range = form-range (announcement-shape kindWidth gapWidth payloadWidth o) n w announcement-formed
+
+  pub announcement-set : {c : ℕ} {f : ℕ → ℕ → ℕ} → SetsBit c f → (i : ℕ) → i < n → i < marksWidth → announcementInForm o n (f i w) ≡ true
+  unfolding announcementInForm
+  announcement-set {c} {f} sets i h l = form-of announcementWidths (announcementFieldsInForm o) n (f i w) (form-set (announcement-shape kindWidth gapWidth payloadWidth o) n sets i w h l announcement-formed)

@@ -1,0 +1,103 @@
+-- Laws of the head: decode after encode and back, injectivity, forms.
+use mathlib.Core.Path.{_≡_, refl}
+use mathlib.Core.Bool.{Bool, true, false, _&&_, and-true}
+use mathlib.Core.List.{[], _∷_}
+use Prim.Native.Nat.{ℕ, _+_, _-_, _/_, _%_, _^_, _<_}
+use native.Mathlib.Numerals.{add-one}
+use native.Mathlib.Omega.{arith}
+use borrow.Author.Tests.{eqb-true, eqb-false, ne-eqb}
+use lib.Dec.{eqb, ltb, leb}
+use lib.ListN.{getD}
+use Rattle.cells.specs.Field.{unpack, Fit}
+use Rattle.cells.specs.Form.{holderBound, headFieldsInForm, headInForm, headInRange}
+use Rattle.cells.specs.Layout.{marksWidth, stateWidth, responseWidth, holderWidth, marks, value, headWidths, headValues, headAt, headFrom, headWord, headOf}
+use Rattle.cells.specs.MarkLaws.{SetsBit}
+use Rattle.cells.specs.Marks.{pick}
+use Rattle.cells.specs.declared.head.Head.{Head}
+use Rattle.cells.specs.declared.head.Head.the-variants.{Free, Held}
+use Rattle.cells.proofs.Codec.{Codec, content-read, marks-read, word-injective}
+use Rattle.cells.proofs.Forms.{Formed, formed, form-of, Shape, written-form, form-whole, form-range, form-set}
+use Rattle.cells.proofs.Tests.{and-right}
+
+pub head-codec : Codec headValues headFrom
+head-codec = record { content-of = content; marks-of = lowest }
+  where
+    content : (x : Head) (m : ℕ) → headFrom (headValues x m) ≡ x
+    content (Free q) m = refl
+    content (Held q j r) m = let back : j + 1 - 1 ≡ j = omega arith in simp (ne-eqb (j + 1) 0 (λ z. omega arith), back)
+
+    lowest : (x : Head) (m : ℕ) → getD (headValues x m) 0 0 ≡ m
+    lowest (Free q) m = refl
+    lowest (Held q j r) m = refl
+
+-- The fields of a head pass the test exactly if it is in range.
+head-ranged : (s n : ℕ) (x : Head) (m : ℕ) → headFieldsInForm s n (headValues x m) ≡ headInRange s n x
+unfolding headFieldsInForm
+head-ranged s n (Free q) m = and-true (ltb q s)
+head-ranged s n (Held q j r) m = rw (ne-eqb (j + 1) 0 (λ z. omega arith), add-one j, and-true (ltb j (holderBound n)))
+
+-- Fields that pass the test are those of the head that they say.
+head-again : (m q r h : ℕ) → pick (eqb h 0) (eqb r 0) true ≡ true → headValues (headAt q r h) m ≡ m ∷ q ∷ r ∷ h ∷ []
+head-again m q r h t = at (eqb h 0) refl
+  where
+    at : (b : Bool) → eqb h 0 ≡ b → headValues (headAt q r h) m ≡ m ∷ q ∷ r ∷ h ∷ []
+    at true e =
+        let none : h ≡ 0 = eqb-true h 0 e in
+        let quiet : r ≡ 0 = eqb-true r 0 (rw e at t) in
+        simp (none, quiet)
+    at false e = let back : h - 1 + 1 ≡ h = omega (arith, eqb-false h 0 e) in simp (e, back)
+
+-- The head's form, with any widths of state, response and holder.
+pub head-shape : (b c d s n : ℕ) → Shape headValues headFrom (b ∷ c ∷ d ∷ []) (headFieldsInForm s n) (headInRange s n)
+unfolding headFieldsInForm unpack
+head-shape b c d s n = record { codec = head-codec; ranged = head-ranged s n; blind = λ m k vs. refl; again = again }
+  where
+    again : (w : ℕ) → headFieldsInForm s n (unpack (marksWidth ∷ b ∷ c ∷ d ∷ []) w) ≡ true → headValues (headFrom (unpack (marksWidth ∷ b ∷ c ∷ d ∷ []) w)) (marks w) ≡ unpack (marksWidth ∷ b ∷ c ∷ d ∷ []) w
+    again w t =
+        let q : ℕ = value w % 2 ^ b in
+        let r : ℕ = value w / 2 ^ b % 2 ^ c in
+        let h : ℕ = value w / 2 ^ b / 2 ^ c % 2 ^ d in
+        let quiet : Bool = pick (eqb h 0) (eqb r 0) true in
+        head-again (marks w) q r h (and-right (leb h (holderBound n)) quiet (and-right (ltb q s) (leb h (holderBound n) && quiet) t))
+
+-- A head is read as it was written, and its word has its marks; different heads or marks have different words.
+module _ (x : Head) (m : ℕ) (f : Fit headWidths (headValues x m)) where
+  pub head-decode : headOf (headWord x m) ≡ x
+  unfolding headOf headWord
+  head-decode = content-read head-codec headWidths x m f
+
+  pub head-marks : marks (headWord x m) ≡ m
+  unfolding headWord unpack
+  head-marks = marks-read head-codec headWidths x m f
+
+  pub head-injective : (y : Head) (k : ℕ) → Fit headWidths (headValues y k) → headWord x m ≡ headWord y k → (x ≡ y) × (m ≡ k)
+  unfolding headWord
+  head-injective y k g = word-injective head-codec headWidths x y m k f g
+
+  -- It is in form exactly if the head is in range and the marks are those of tasks below n.
+  pub head-form : (s n : ℕ) → headInForm s n (headWord x m) ≡ (ltb m (2 ^ n) && headInRange s n x)
+  unfolding headWord headInForm
+  head-form s n = written-form (head-shape stateWidth responseWidth holderWidth s n) n x m f
+
+-- A head depends on the value of its word alone.
+pub head-of-value : (v w : ℕ) → value v ≡ value w → headOf v ≡ headOf w
+unfolding headOf unpack
+head-of-value v w e = rw e
+
+-- A word in form is its head with its marks; the head is in range; and link and release keep the form.
+module _ (s n w : ℕ) (e : headInForm s n w ≡ true) where
+  pub head-formed : Formed headWidths (headFieldsInForm s n) n w
+  unfolding headInForm
+  head-formed = formed headWidths (headFieldsInForm s n) n w e
+
+  pub head-whole : headWord (headOf w) (marks w) ≡ w
+  unfolding headWord headOf
+  head-whole = form-whole (head-shape stateWidth responseWidth holderWidth s n) n w head-formed
+
+  pub head-range : headInRange s n (headOf w) ≡ true
+  unfolding headOf
+  head-range = form-range (head-shape stateWidth responseWidth holderWidth s n) n w head-formed
+
+  pub head-set : {c : ℕ} {f : ℕ → ℕ → ℕ} → SetsBit c f → (i : ℕ) → i < n → i < marksWidth → headInForm s n (f i w) ≡ true
+  unfolding headInForm
+  head-set {c} {f} sets i h l = form-of headWidths (headFieldsInForm s n) n (f i w) (form-set (head-shape stateWidth responseWidth holderWidth s n) n sets i w h l head-formed)

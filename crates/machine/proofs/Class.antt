@@ -1,0 +1,40 @@
+-- The effects by what they mean to the potential: seven ordinary ones, and three stage changes (apply, hand over, clear).
+use mathlib.Core.Bool.{Bool, true, false}
+use Prim.Native.Nat.{ℕ}
+use native.Mathlib.Decide.{ℕ-discrete}
+use Rattle.machine.specs.Machine.{decided, pick}
+use Rattle.machine.specs.Potential.{always}
+use Rattle.machine.proofs.Effect.{Effect, Unchanged, Linked, Released, Cleared, Retracted, Applied, LinkedAt, ReleasedAt, HandedOver, Announced}
+
+-- The rank that the effect takes from its task, by whether the own mark stands in the head; 1 for a stage change; whether
+-- it puts the own mark into the head; whether it marks or unmarks, and whether it rewrites, the announcement of task t.
+pub record Class : Type 0 where
+  pub cost : Bool → ℕ
+  pub stage : ℕ
+  pub links : Bool
+  pub marks : (i t : ℕ) → Bool
+  pub writes : (i t : ℕ) → Bool
+
+abbrev pub nowhere : (i t : ℕ) → Bool
+nowhere i t = false
+
+abbrev pub own : (i t : ℕ) → Bool
+own i t = decided (ℕ-discrete i t)
+
+abbrev pub at : ℕ → (i t : ℕ) → Bool
+at j i t = decided (ℕ-discrete j t)
+
+abbrev pub columns : (Bool → ℕ) → ℕ → Bool → ((i t : ℕ) → Bool) → ((i t : ℕ) → Bool) → Class
+columns c s l m w = record { cost = c; stage = s; links = l; marks = m; writes = w }
+
+abbrev pub class : Effect → Class
+class Unchanged = columns (always 0) 0 false nowhere nowhere
+class Linked = columns (λ marked. pick marked 0 1) 0 true nowhere nowhere
+class Released = columns (always 1) 0 false nowhere nowhere
+class Cleared = columns (always 0) 1 false nowhere nowhere
+class Retracted = columns (always 1) 0 false nowhere own
+class (Applied q j r) = columns (always 0) 1 false nowhere nowhere
+class (LinkedAt j) = columns (always 1) 0 false (at j) nowhere
+class (ReleasedAt j) = columns (always 1) 0 false (at j) nowhere
+class (HandedOver j r) = columns (always 0) 1 false nowhere (at j)
+class (Announced o) = columns (always 1) 0 false nowhere own

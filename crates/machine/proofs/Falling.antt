@@ -1,0 +1,242 @@
+-- A step lowers the potential of its own operation, and raises that of no other.
+use mathlib.Core.Path.{_≡_, refl, sym, _∙_, ap}
+use mathlib.Core.Bool.{Bool, true, false, _&&_, _||_, not}
+use mathlib.Core.Logic.{_≢_}
+use Prim.Native.Nat.{ℕ, _+_, _*_, _≤_, _<_}
+use native.Mathlib.Decide.{ℕ-discrete}
+use native.Mathlib.Omega.{arith}
+use Rattle.machine.specs.Object.{Object}
+use Rattle.machine.specs.Memory.{Content, Empty, Op, Resp, Memory}
+use Rattle.machine.specs.Machine.{Task, Next, phaseOf, turns, advance, pick}
+use Rattle.machine.specs.Kind.{Kind, Off, Reading, Opening, Looping, Exiting, Retracting, kind}
+use Rattle.machine.specs.Run.{Config}
+use Rattle.machine.specs.Invariant.{inHead, headValue, content, IsResp, OwnContent, Safe}
+use Rattle.machine.specs.Potential.{row, one, answered, holds, dists, placeOf, waitingPotential, atHead, headLoad, headPart, markPart, lasts, answeredPotential, announcedPotential, potentialBy, potential}
+use Rattle.machine.proofs.Update.{clash, update-same, update-other}
+use Rattle.machine.proofs.Effect.{Effect, Cleared, Applied, HandedOver, Announced, effect, Allowed}
+use Rattle.machine.proofs.Moved.{moved, Steps}
+use Rattle.machine.proofs.Rely.{relies}
+use Rattle.machine.proofs.Own.{allowed, value-found, is-response, not-empty}
+use Rattle.machine.proofs.Readings.{pick-le, one-le}
+use Rattle.machine.proofs.Class.{class}
+use Rattle.machine.proofs.Ordinary.{Ordinary, Sort, ordinary, clears, applies, hands-over, sort, elsewhere, Fate, rewritten, kept, fate}
+use Rattle.machine.proofs.Rows.{extras}
+use Rattle.machine.proofs.Debts.{other-owes}
+use Rattle.machine.proofs.Seen.{Seen, seen}
+use Rattle.machine.proofs.Course.{Busy, Falls, Course, rests, reads, opens, works, ends, course}
+use Rattle.machine.proofs.Waiting.{Pays, share, dists-fall, stages-clear, stages-apply, stages-hand-over, waiting-stays, place-other, waiting-falls, waiting-most}
+use Rattle.machine.proofs.Answered.{due-part, HeadDue, Less, lasts-no-longer, head-most, mark-most, answered-most, load-stays, head-stays, marks-stay, mark-same}
+use Rattle.machine.proofs.Stage.{clear-keeps-turn, hand-over-keeps-turn, apply-turns, clear-head, apply-head, hand-over-head}
+
+false-of : (x : Bool) → one x ≤ 0 → x ≡ false
+false-of true h = absurd (omega arith)
+false-of false h = refl
+
+or-one : (x x′ y : Bool) (k : ℕ) → one x′ ≤ one x + k → one (x′ || y) ≤ one (x || y) + k
+or-one true true y k h = omega arith
+or-one true false y k h = omega (arith, one-le y)
+or-one false true y k h = omega arith
+or-one false false y k h = omega arith
+
+-- The part of the head that is due to the task that steps: only a link makes it due.
+own-due : (a a′ links : Bool) (s s′ most : ℕ) → s′ ≤ s → s′ ≤ most → one a′ ≤ one a + one links → pick a′ s′ 0 ≤ pick a s 0 + pick (links && not a) most 0
+own-due true true l s s′ most x y z = omega arith
+own-due false true true s s′ most x y z = omega arith
+own-due false true false s s′ most x y z = omega arith
+own-due a false l s s′ most x y z = omega arith
+
+-- ---- By the kind of the phase
+
+-- A busy task has announced.
+busy-announced : (k : Kind) {a : Content} (o : ℕ) → Busy k → OwnContent a o k → a ≡ Empty → ⊥
+busy-announced Off o u y e = u
+busy-announced Reading o u y e = u
+busy-announced Opening o u y e = u
+busy-announced Looping o u y e = not-empty o y e
+busy-announced (Exiting v) o u y e = let z : _≡_ {A = ℕ} 0 1 = cc in omega arith
+busy-announced (Retracting v) o u y e = let z : _≡_ {A = ℕ} 0 1 = cc in omega arith
+
+busy-potential : (n : ℕ) (c : Config) (p : ℕ) (a : Content) (k : Kind) → Busy k → potentialBy n c p k a ≡ announcedPotential n c p a
+busy-potential n c p a Off u = absurd u
+busy-potential n c p a Reading u = absurd u
+busy-potential n c p a Opening u = absurd u
+busy-potential n c p a Looping u = refl
+busy-potential n c p a (Exiting v) u = refl
+busy-potential n c p a (Retracting v) u = refl
+
+-- Of a task that keeps its record.
+pub kind-stays : (n : ℕ) (c c′ : Config) (p : ℕ) (a a′ : Content) (k : Kind) → (Busy k → announcedPotential n c′ p a′ ≤ announcedPotential n c p a) → potentialBy n c′ p k a′ ≤ potentialBy n c p k a
+kind-stays n c c′ p a a′ Off f = omega arith
+kind-stays n c c′ p a a′ Reading f = omega arith
+kind-stays n c c′ p a a′ Opening f = omega arith
+kind-stays n c c′ p a a′ Looping f = f tt
+kind-stays n c c′ p a a′ (Exiting v) f = f tt
+kind-stays n c c′ p a a′ (Retracting v) f = f tt
+
+module _ (b : Object) (n i : ℕ) (lt : i < n) (c : Config) (safe : Safe c) (below : c .task i .priority < n) where
+  abbrev m : Memory
+  m = c .memory
+
+  abbrev after : Effect → Next → Config
+  after e y = moved n i c e y
+
+  may : {e : Effect} {y : Next} → Steps b i c e y → Allowed b m i e
+  may v = allowed b m i (c .task i .priority) (c .task i .operation) (safe .holder) v (safe .each i)
+
+  sees : {e : Effect} {y : Next} → Steps b i c e y → (p t : ℕ) → Seen m (effect i e m) i (c .task i .priority) n p t (row (c .task i .phase)) (row (phaseOf y)) e y
+  sees v p t = seen b m i (c .task i .priority) (c .task i .operation) n p t (extras (inHead m i) (answered (content m i))) v (safe .each i) (may v)
+
+  -- The rank pays for an ordinary effect.
+  paid : {e : Effect} {y : Next} → Steps b i c e y → Ordinary m (effect i e m) i (class e)
+      → Pays i c (effect i e m) (advance n (c .task i) y) (class e)
+  paid v o = omega (arith, sees v 0 0 .rank, o .stage)
+
+  -- Unless the priority moves on, nobody comes further away from a waiting task.
+  nearer : {e : Effect} {y : Next} → Steps b i c e y → (p : ℕ) {x : ℕ} → content m p ≡ Op x → turns y ≡ false → dists n p (after e y) ≤ dists n p c
+  nearer {e} {y} v p f z = omega (arith, dists-fall n i lt c (effect i e m) (advance n (c .task i) y) p 0 (rw z (omega (arith, rw f at (sees v p 0 .distance)))))
+
+  -- ---- A waiting task p, whoever steps
+
+  module _ (p : ℕ) (below-p : p < n) {x : ℕ} (f : content m p ≡ Op x) (k : ℕ) (one-step : k ≤ 1) where
+    -- It goes on waiting, with k more of its place behind it, or the stage changes, or it has its response.
+    waits : {e : Effect} {y : Next} → Steps b i c e y → Sort b m i e
+        → (Ordinary m (effect i e m) i (class e) → (content (effect i e m) p ≡ content m p) × (placeOf (effect i e m) p (row (after e y .task p .phase)) + k ≤ placeOf m p (row (c .task p .phase)) + 5 * share i c (class e) p))
+        → announcedPotential n (after e y) p (content (effect i e m) p) + k ≤ waitingPotential n c p
+    waits {e} {y} v (ordinary o) g =
+        rw (g o .0 ∙ f) (waiting-stays n i lt c (effect i e m) (advance n (c .task i) y) p k o (paid v o) (nearer v p f (false-of (turns y) (omega (arith, sees v 0 0 .turn, o .stage)))) (g o .1))
+    waits {y = y} v (clears a) g =
+        rw f (omega (
+          arith,
+          waiting-falls n i lt c (effect i Cleared m) (advance n (c .task i) y) p below-p
+              (stages-clear b m i p x _ _ f a (nearer v p f (clear-keeps-turn v))),
+        ))
+    waits {y = y} v (applies {q = q} {j = j} {r = r} a) g =
+        rw f (omega (
+          arith,
+          waiting-falls n i lt c (effect i (Applied q j r) m) (advance n (c .task i) y) p below-p
+              (stages-apply b m i p x _ _ f q j r a (λ d. dists-fall n i lt c (effect i (Applied q j r) m) (advance n (c .task i) y) p 1 (apply-turns n p (c .task i) v below-p below d))),
+        ))
+    waits {y = y} v (hands-over {j = j} {r = r} a) g = go (ℕ-discrete j p)
+      where
+        go : Dec (j ≡ p) → announcedPotential n (after (HandedOver j r) y) p (content (effect i (HandedOver j r) m) p) + k ≤ waitingPotential n c p
+        go (yes z) =
+            let u : content (effect i (HandedOver j r) m) p ≡ Resp r = rw (← z) (value-found (update-same (m .announcement) j _)) in
+            rw u (omega (arith, answered-most n (after (HandedOver j r) y) p below-p))
+        go (no d) =
+            rw (elsewhere m i j p _ d, f) (omega (
+              arith,
+              waiting-falls n i lt c (effect i (HandedOver j r) m) (advance n (c .task i) y) p below-p
+                  (stages-hand-over b m i p x _ _ f j r a d (nearer v p f (hand-over-keeps-turn v))),
+            ))
+
+  -- ---- Another task p with its response
+
+  module _ (p : ℕ) (d : i ≢ p) (r : IsResp (content m p)) where
+    less-head : {e : Effect} {y : Next} → Steps b i c e y → Sort b m i e → HeadDue n c (after e y) p
+    less-head {e} {y} v (ordinary o) = head-stays n i lt c (effect i e m) (advance n (c .task i) y) p d o (paid v o)
+    less-head {y = y} v (clears a) = clear-head b n i c p y
+    less-head {y = y} v (applies a) = apply-head b n i c p y r a
+    less-head v (hands-over a) = hand-over-head b n i c p v a
+
+    less : {e : Effect} {y : Next} → Steps b i c e y → Less n c (after e y) p
+    less {e} {y} v = record {
+      head = less-head v (sort b m i e (may v));
+      marks = λ t. marks-stay n i lt c (effect i e m) (advance n (c .task i) y) p t d (fate m i t e) (λ x k w. other-owes b m i x t w (sort b m i e (may v)) k) (sees v 0 t .debt);
+    }
+
+    answers : {e : Effect} {y : Next} → Steps b i c e y → answeredPotential n (after e y) p ≤ answeredPotential n c p
+    answers {y = y} v = rw (update-other (c .task) i (advance n (c .task i) y) p d) (lasts-no-longer n c _ p (less v) (c .task p .phase) (safe .each p .saved))
+
+  -- ---- Another task p
+
+  other-announced : {e : Effect} {y : Next} → Steps b i c e y → (p : ℕ) → i ≢ p → p < n → (a : Content) → content m p ≡ a → (a ≡ Empty → ⊥)
+      → announcedPotential n (after e y) p (content (effect i e m) p) ≤ announcedPotential n c p a
+  other-announced v p d h Empty f z = absurd (z refl)
+  other-announced {e} {y} v p d h (Op x) f z =
+      omega (arith, waits p h f 0 (omega arith) v (sort b m i e (may v)) (λ o. (o .contents p (λ z. d (sym z)), place-other n i lt c (effect i e m) (advance n (c .task i) y) p o d)))
+  other-announced {e} v p d h (Resp r) f z =
+      let u : content (effect i e m) p ≡ Resp r = rw f at (relies b m (λ z. d (sym z)) e (may v) .own) in
+      rw u (answers p d (is-response f) v)
+
+  pub potential-other : {e : Effect} {y : Next} → Steps b i c e y → (p : ℕ) → i ≢ p → p < n → potential n (after e y) p ≤ potential n c p
+  potential-other {e} {y} v p d h =
+      rw (update-other (c .task) i (advance n (c .task i) y) p d)
+      (kind-stays n c (after e y) p (content m p) (content (effect i e m) p) (kind (c .task p .phase))
+      (λ u. other-announced v p d h (content m p) refl (busy-announced (kind (c .task p .phase)) (c .task p .operation) u (safe .each p .own))))
+
+  -- ---- The task that steps
+
+  -- Its announcement keeps its content in an ordinary step, and its response in any.
+  own-stays : (e : Effect) → Ordinary m (effect i e m) i (class e) → one (class e .writes i i) ≤ class e .stage → content (effect i e m) i ≡ content m i
+  own-stays e o h = go (fate m i i e)
+    where
+      go : Fate m (effect i e m) i i (class e) → content (effect i e m) i ≡ content m i
+      go (rewritten w f) = clash w (false-of (class e .writes i i) (omega (arith, o .stage)))
+      go (kept w v a f) = v
+
+  own-answered : {e : Effect} {r : ℕ} → Sort b m i e → one (class e .writes i i) ≤ class e .stage → content m i ≡ Resp r → content (effect i e m) i ≡ Resp r
+  own-answered {e} (ordinary o) h f = own-stays e o h ∙ f
+  own-answered (clears a) h f = f
+  own-answered (applies a) h f = f
+  own-answered {r = r} (hands-over {j = j} a) h f = elsewhere m i j i _ (λ z. (let u : content m i ≡ Op (a .1) = rw (← z) (a .3) in let w : _≡_ {A = ℕ} 0 1 = cc in omega arith)) ∙ f
+
+  -- Its part of the head becomes due by a link alone.
+  own-head : {e : Effect} {y : Next} → Steps b i c e y → Sort b m i e → IsResp (content m i) → headPart n (after e y) i ≤ headPart n c i + pick (class e .links && not (atHead m i)) (9 * n + 1) 0
+  own-head {e} {y} v (ordinary o) r =
+      own-due (atHead m i) (atHead (effect i e m) i) (class e .links) _ _ (9 * n + 1)
+      (omega (arith, load-stays n i lt c (effect i e m) (advance n (c .task i) y) i o (paid v o))) (head-most n (after e y) i lt)
+      (rw (o .value) (or-one (inHead m i) (inHead (effect i e m) i) (holds i (headValue m)) (one (class e .links)) (o .own)))
+  own-head {y = y} v (clears a) r = omega (arith, due-part (clear-head b n i c i y))
+  own-head {y = y} v (applies a) r = omega (arith, due-part (apply-head b n i c i y r a))
+  own-head v (hands-over a) r = omega (arith, due-part (hand-over-head b n i c i v a))
+
+  own-course : {e : Effect} {y : Next} (v : Steps b i c e y) (h h′ : ℕ) → h′ ≤ 9 * n + 1 → h′ ≤ h + pick (class e .links && not (atHead m i)) (9 * n + 1) 0
+      → Course (row (c .task i .phase)) (Falls n i m (effect i e m) h h′ (markPart n c i) (markPart n (after e y) i) (c .task i .phase) (phaseOf y) e) (kind (c .task i .phase)) e (kind (phaseOf y))
+  own-course {e} {y} v h h′ most l =
+      course b m i (c .task i .priority) (c .task i .operation) n h h′ (markPart n c i) (markPart n (after e y) i) most (mark-most n (after e y) i lt) v (safe .each i) l
+      (λ z. mark-same n i lt c (effect i e m) (advance n (c .task i) y) i (ap (λ (e : Effect). effect i e m) z))
+
+  -- By the course of its operation.
+  own-by : {k k′ : Kind} {e : Effect} {y : Next} {F : Type 0} → Steps b i c e y → Course (row (c .task i .phase)) F k e k′ → (k ≡ Off → ⊥)
+      → (F → Busy k × Busy k′ × (announcedPotential n (after e y) i (content (effect i e m) i) + 1 ≤ announcedPotential n c i (content m i)))
+      → potentialBy n (after e y) i k′ (content (effect i e m) i) + 1 ≤ potentialBy n c i k (content m i)
+  own-by v rests z g = absurd (z refl)
+  own-by v reads z g = omega arith
+  own-by {y = y} v (opens {o = o}) z g =
+      let u : content (effect i (Announced o) m) i ≡ Op o = value-found (update-same (m .announcement) i _) in
+      rw u (waiting-most n (after (Announced o) y) i lt)
+  own-by {k} {k′} {e} {y} v (works F) z g =
+      omega (arith, busy-potential n (after e y) i (content (effect i e m) i) k′ (g F .1), busy-potential n c i (content m i) k (g F .0), g F .2)
+  own-by v (ends h) z g = let u : content m i ≡ Resp (may v .0) = may v .1 in rw u (omega arith)
+
+  pub potential-own : {e : Effect} {y : Next} → Steps b i c e y → (kind (c .task i .phase) ≡ Off → ⊥) → potential n (after e y) i + 1 ≤ potential n c i
+  potential-own {e} {y} v z = rw mine (go (content m i) refl)
+    where
+      mine : after e y .task i ≡ advance n (c .task i) y
+      mine = update-same (c .task) i (advance n (c .task i) y)
+
+      go : (a : Content) → content m i ≡ a → potentialBy n (after e y) i (kind (phaseOf y)) (content (effect i e m) i) + 1 ≤ potentialBy n c i (kind (c .task i .phase)) (content m i)
+      go Empty f =
+          own-by v (own-course v 0 0 (omega arith) (omega arith)) z
+          (λ F. absurd (busy-announced (kind (c .task i .phase)) (c .task i .operation) (F .before) (safe .each i .own) f))
+      go (Op x) f =
+          own-by v (own-course v 0 0 (omega arith) (omega arith)) z
+          (λ F. (
+            F .before,
+            F .after,
+            omega (arith, ap (announcedPotential n c i) f, waits i lt f 1 (omega arith) v (sort b m i e (may v)) (λ o. (own-stays e o (F .writes), rw mine (omega (arith, F .place, o .stage))))),
+          ))
+      go (Resp r) f =
+          own-by v (own-course v (headPart n c i) (headPart n (after e y) i)
+          (omega (arith, pick-le (atHead (effect i e m) i) (headLoad n (after e y) i), head-most n (after e y) i lt)) (own-head v (sort b m i e (may v)) (is-response f))) z
+          (λ F. (
+            F .before,
+            F .after,
+            omega (
+              arith,
+              ap (announcedPotential n c i) f,
+              ap (announcedPotential n (after e y) i) (own-answered (sort b m i e (may v)) (F .writes) f),
+              ap (λ (t : Task). lasts n (headPart n (after e y) i) (markPart n (after e y) i) (effect i e m) (row (t .phase))) mine,
+              F .last (is-response f),
+            ),
+          ))

@@ -1,0 +1,114 @@
+-- An access to encoded cells: the word that it touches, what it gives back and what it leaves.
+use mathlib.Core.Path.{_≡_, refl, ap, sym}
+use mathlib.Core.Bool.{true, cond}
+use mathlib.Core.List.{List, _∷_}
+use Prim.Native.Nat.{ℕ, _+_, _<_, _≤_}
+use native.Mathlib.Numerals.{add-one}
+use native.Mathlib.Omega.{arith}
+use borrow.Author.Tests.{ne-eqb}
+use lib.Dec.{eqb}
+use lib.ListN.{length, getD, set}
+use lib.Seq.{set-getD}
+use Rattle.cells.specs.Layout.{marksWidth}
+use Rattle.table.specs.declared.Shape.{Shape}
+use Rattle.machine.specs.Object.{Object}
+use Rattle.machine.specs.Memory.{Cell, Content, Memory, either, update, head-dec, announcement-dec}
+use Rattle.machine.specs.Machine as machine
+use Rattle.machine.specs.Machine.{NoAccess, ReadHead, ReadAnnouncement, WriteAnnouncement, SwapHead, SwapAnnouncement, Nothing, HeadRead, AnnouncementRead, decided, result, perform}
+use Rattle.machine.specs.Form.{HeadFormed, AnnouncementFormed, MemoryFormed}
+use Rattle.stepping.specs.declared.access.Access.{Access}
+use Rattle.stepping.specs.declared.access.Access.the-variants.{Read, Write, Swap}
+use Rattle.stepping.specs.declared.access.Found.{Found}
+use Rattle.stepping.specs.declared.access.Found.the-variants.{Word, Stored, Swapped, Unswapped}
+use Rattle.stepping.specs.Step.{touched, foundOf, performOf, cellInForm}
+use Rattle.stepping.specs.Encoding.{ObjectTable, objectOf, encodeHead, encodeAnnouncement, encodeCells}
+use Rattle.stepping.proofs.Tables.{tabulate-length, tabulate-at, tabulate-set}
+use Rattle.stepping.proofs.EncodedCells.{head-same, head-in-form, announcement-same, announcement-in-form}
+
+-- The access and its result on words. A step with no access isn't accepted.
+abbrev pub encodeAccess : machine.Access → Access
+encodeAccess NoAccess = Read 0
+encodeAccess ReadHead = Read 0
+encodeAccess (ReadAnnouncement j) = Read (j + 1)
+encodeAccess (WriteAnnouncement j a) = Write (j + 1) (encodeAnnouncement a)
+encodeAccess (SwapHead h g) = Swap 0 (encodeHead h) (encodeHead g)
+encodeAccess (SwapAnnouncement j a c) = Swap (j + 1) (encodeAnnouncement a) (encodeAnnouncement c)
+
+abbrev pub encodeResult : machine.Result → Found
+encodeResult Nothing = Stored
+encodeResult (HeadRead h) = Word (encodeHead h)
+encodeResult (AnnouncementRead a) = Word (encodeAnnouncement a)
+encodeResult (machine.Swapped made) = cond made Swapped Unswapped
+
+-- A choice by a test that says a decision.
+cond-either : {A B P : Type 0} (f : A → B) (d : Dec P) (x y : A) → cond (decided d) (f x) (f y) ≡ f (either d x y)
+cond-either f (yes e) x y = refl
+cond-either f (no e) x y = refl
+
+-- The announcements stand behind the head.
+module _ (n : ℕ) (m : Memory) where
+  pub cells-length : length (encodeCells n m) ≡ n + 1
+  cells-length = rw (tabulate-length n (λ j. encodeAnnouncement (m .announcement j))) (sym (add-one n))
+
+  module _ (j : ℕ) (below : j < n) where
+    cell-at : getD (encodeCells n m) (j + 1) 0 ≡ encodeAnnouncement (m .announcement j)
+    cell-at = rw (add-one j) (tabulate-at n (λ j. encodeAnnouncement (m .announcement j)) 0 j below)
+
+    cell-set : (a : Cell Content) → set (encodeCells n m) (j + 1) (encodeAnnouncement a) ≡ encodeCells n (record { head = m .head; announcement = update (m .announcement) j a })
+    cell-set a = rw (add-one j) (ap (λ (l : List ℕ). encodeHead (m .head) ∷ l) (tabulate-set encodeAnnouncement n (m .announcement) j a below))
+
+module _ (file : List ℕ) (shape : Shape) (table : ObjectTable file shape) (n : ℕ) (most : n ≤ marksWidth) where
+  abbrev object : Object
+  object = objectOf file shape table
+
+  -- The touched cell is one of the cells, and the word compared with is in range.
+  abbrev pub AccessFormed : machine.Access → Type 0
+  AccessFormed NoAccess = ⊥
+  AccessFormed ReadHead = Unit {0}
+  AccessFormed (ReadAnnouncement j) = j < n
+  AccessFormed (WriteAnnouncement j a) = j < n
+  AccessFormed (SwapHead h g) = HeadFormed object n h
+  AccessFormed (SwapAnnouncement j a c) = (j < n) × AnnouncementFormed object n a
+
+  module _ (m : Memory) (ranged : MemoryFormed object n m) where
+    -- The announcement of task j: what a swap compares, and its form.
+    announcement-swap : (j : ℕ) (a : Cell Content) → j < n → AnnouncementFormed object n a → eqb (getD (encodeCells n m) (j + 1) 0) (encodeAnnouncement a) ≡ decided (announcement-dec (m .announcement j) a)
+    announcement-swap j a below r = rw (cell-at n m j below) (announcement-same file shape table n most (m .announcement j) (ranged .announcement j) a r)
+
+    announcement-touched : (j : ℕ) → j < n → cellInForm shape n (j + 1) (getD (encodeCells n m) (j + 1) 0) ≡ true
+    unfolding cellInForm
+    announcement-touched j below = rw (ne-eqb (j + 1) 0 (λ z. omega arith), cell-at n m j below) (announcement-in-form file shape table n most (m .announcement j) (ranged .announcement j))
+
+    -- The touched cell is in form.
+    pub touched-in-form : (a : machine.Access) → AccessFormed a → cellInForm shape n (touched (encodeAccess a)) (getD (encodeCells n m) (touched (encodeAccess a)) 0) ≡ true
+    unfolding cellInForm
+    touched-in-form NoAccess f = absurd f
+    touched-in-form ReadHead f = head-in-form file shape table n most (m .head) (ranged .head)
+    touched-in-form (ReadAnnouncement j) f = announcement-touched j f
+    touched-in-form (WriteAnnouncement j a) f = announcement-touched j f
+    touched-in-form (SwapHead h g) f = head-in-form file shape table n most (m .head) (ranged .head)
+    touched-in-form (SwapAnnouncement j a c) f = announcement-touched j (f .0)
+
+    -- What the access gives back.
+    pub result-simulates : (a : machine.Access) → AccessFormed a → foundOf (getD (encodeCells n m) (touched (encodeAccess a)) 0) (encodeAccess a) ≡ encodeResult (result a m)
+    unfolding result
+    result-simulates NoAccess f = absurd f
+    result-simulates ReadHead f = refl
+    result-simulates (ReadAnnouncement j) f = ap Word (cell-at n m j f)
+    result-simulates (WriteAnnouncement j a) f = refl
+    result-simulates (SwapHead h g) f = rw (head-same file shape table n most (m .head) (ranged .head) h f)
+    result-simulates (SwapAnnouncement j a c) f = rw (announcement-swap j a (f .0) (f .1))
+
+    -- The cells after the access.
+    pub perform-simulates : (a : machine.Access) → AccessFormed a → performOf (encodeCells n m) (encodeAccess a) ≡ encodeCells n (perform a m)
+    unfolding perform performOf
+    perform-simulates NoAccess f = absurd f
+    perform-simulates ReadHead f = refl
+    perform-simulates (ReadAnnouncement j) f = set-getD (encodeCells n m) (j + 1) 0
+    perform-simulates (WriteAnnouncement j a) f = cell-set n m j f a
+    perform-simulates (SwapHead h g) f = rw (head-same file shape table n most (m .head) (ranged .head) h f, cond-either encodeHead (head-dec (m .head) h) g (m .head))
+    perform-simulates (SwapAnnouncement j a c) f = rw (announcement-swap j a (f .0) (f .1)) (by (announcement-dec (m .announcement j) a))
+      where
+        by : (d : Dec (m .announcement j ≡ a)) → set (encodeCells n m) (j + 1) (cond (decided d) (encodeAnnouncement c) (getD (encodeCells n m) (j + 1) 0)) ≡ encodeCells n (record { head = m .head; announcement = either d (update (m .announcement) j c) (m .announcement) })
+        by (yes e) = cell-set n m j (f .0) c
+        by (no e) = set-getD (encodeCells n m) (j + 1) 0

@@ -1,0 +1,121 @@
+//! The second program: document 01 written again, apart from the proved library, to compare the two.
+
+mod bench;
+mod book;
+mod calls;
+mod ceiling;
+mod cells;
+mod compare_bench;
+mod compare_tables;
+mod configuration;
+mod estimate;
+mod exploration;
+mod explore;
+mod invariant;
+mod lines;
+mod long_operations;
+mod longest;
+mod longest_path;
+mod machine;
+mod objects;
+mod opening;
+mod packed_point;
+mod phase;
+mod potential;
+mod process;
+mod random;
+mod random_runs;
+mod record;
+mod reduced;
+mod reduced_graph;
+mod refusal;
+mod replay;
+mod script_cases;
+mod search;
+mod table;
+mod table_cases;
+mod table_file;
+mod transition;
+#[cfg(test)]
+mod wrong_rules;
+
+use std::io::Read;
+use std::path::Path;
+use std::process::ExitCode;
+
+use compare_bench::{compare_bench, write_listing, RANDOM_SCRIPTS};
+
+const USAGE: &str = "usage: reference check-table < FILE
+       reference compare-tables PATH_TO_check_table
+       reference explore
+       reference search [TASKS]
+       reference longest [TASKS]
+       reference bench < LINES
+       reference compare-bench PATH_TO_bench [COUNT]
+       reference listing FOLDER";
+
+fn main() -> ExitCode {
+    let arguments: Vec<String> = std::env::args().skip(1).collect();
+    let words: Vec<&str> = arguments.iter().map(String::as_str).collect();
+    let result = match words.as_slice() {
+        ["check-table"] => check_table(),
+        ["compare-tables", program] => compare_tables::compare_tables(program).map(print_line),
+        ["explore"] => exploration::explore_all().map(print_line),
+        ["search"] => long_operations::search_for(&[1, 2, 3, 4, 5, 6, 7, 8]),
+        ["search", tasks] => task_count(tasks).and_then(|tasks| long_operations::search_for(&[tasks])),
+        ["longest"] => long_operations::exact_for(&[1, 2, 3]),
+        ["longest", tasks] => task_count(tasks).and_then(|tasks| long_operations::exact_for(&[tasks])),
+        ["bench"] => bench_here(),
+        ["compare-bench", program] => compare_bench(program, RANDOM_SCRIPTS).map(print_line),
+        ["compare-bench", program, count] => match count.parse() {
+            Ok(count) => compare_bench(program, count).map(print_line),
+            Err(_) => Err(USAGE.to_string()),
+        },
+        ["listing", folder] => write_listing(folder),
+        _ => Err(USAGE.to_string()),
+    };
+    match result {
+        Ok(()) => ExitCode::SUCCESS,
+        Err(message) => {
+            eprintln!("{message}");
+            ExitCode::FAILURE
+        }
+    }
+}
+
+/// A number of tasks from 1 to 8.
+fn task_count(word: &str) -> Result<usize, String> {
+    match word.parse() {
+        Ok(tasks) if ceiling::ceiling(tasks).is_ok() => Ok(tasks),
+        _ => Err(USAGE.to_string()),
+    }
+}
+
+fn print_line(line: String) {
+    println!("{line}");
+}
+
+/// Does what the program `check_table` does.
+fn check_table() -> Result<(), String> {
+    let mut file = Vec::new();
+    let most = table::MOST_FILE_BYTES as u64 + 1;
+    std::io::stdin()
+        .take(most)
+        .read_to_end(&mut file)
+        .map_err(|error| error.to_string())?;
+    print!("{}", table::check_report(&file));
+    Ok(())
+}
+
+/// Does what the program `bench` does, in the present folder.
+fn bench_here() -> Result<(), String> {
+    let mut input = Vec::new();
+    std::io::stdin()
+        .read_to_end(&mut input)
+        .map_err(|error| error.to_string())?;
+    print!(
+        "{}",
+        bench::output(&bench::read_table_file(Path::new(".")), &input)
+    );
+    Ok(())
+}

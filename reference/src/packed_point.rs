@@ -1,0 +1,172 @@
+//! A settled point of a chase over the object with one state in reach, as one word.
+//!
+//! Where no call is forced, the saved words of the other tasks follow from the cells, and so do their marks in the
+//! announcements. Of the victim's saved words only the marks are kept, and only while its own mark stands.
+
+use crate::cells::{has_mark, mark_of, value, Announcement, Head, Holder};
+use crate::configuration::Configuration;
+use crate::phase::Phase;
+use crate::record::Record;
+
+const HOLDER_BITS: u32 = 4;
+const PHASE_BITS: u32 = 7;
+const PRIORITY_BITS: u32 = 2;
+/// More tasks do not fit in a word.
+pub const MOST_PACKED_TASKS: usize = 4;
+
+/// Writes fields from the lowest bit up, or reads them in the same order.
+struct Fields {
+    word: u64,
+    used: u32,
+}
+
+impl Fields {
+    fn put(&mut self, field: u64, width: u32) {
+        assert!(field >> width == 0 && self.used + width <= u64::BITS);
+        self.word |= field << self.used;
+        self.used += width;
+    }
+
+    fn take(&mut self, width: u32) -> u64 {
+        let field = (self.word >> self.used) & ((1 << width) - 1);
+        self.used += width;
+        field
+    }
+}
+
+/// The marks of a word, as a field.
+fn marks(word: u64) -> u64 {
+    word - value(word)
+}
+
+pub fn pack(point: &Configuration, victim: usize) -> u64 {
+    let width = point.tasks as u32;
+    let mut fields = Fields { word: 0, used: 0 };
+    fields.put(
+        point.holder().map_or(0, |holder| holder.task as u64 + 1),
+        HOLDER_BITS,
+    );
+    fields.put(marks(point.head()), width);
+    for (task, record) in point.row().iter().enumerate() {
+        fields.put(u64::from(record.phase), PHASE_BITS);
+        fields.put(u64::from(record.priority), PRIORITY_BITS);
+        fields.put(u64::from(point.is_cleared(task)), 1);
+    }
+    let record = point.record(victim);
+    let phase = record.known_phase();
+    let helped = phase.marked_announcement();
+    let linked = helped.is_some_and(|helped| point.is_linked_to(victim, helped));
+    fields.put(u64::from(linked), 1);
+    let keeps_head = keeps_head(phase) && point.is_linked_to_head(victim);
+    fields.put(if keeps_head { marks(record.head) } else { 0 }, width);
+    let keeps_announcement = matches!(phase, Phase::Validate(_)) && linked;
+    fields.put(
+        if keeps_announcement {
+            marks(record.announcement)
+        } else {
+            0
+        },
+        width,
+    );
+    fields.word
+}
+
+/// Phases whose saved head is compared later, not now.
+fn keeps_head(phase: Phase) -> bool {
+    phase.is_after_link()
+        && !matches!(
+            phase,
+            Phase::Apply(_) | Phase::ReloadApply(_) | Phase::ClearHead | Phase::ReloadClear
+        )
+}
+
+pub fn unpack(word: u64, tasks: usize, victim: usize) -> Configuration {
+    let width = tasks as u32;
+    let mut fields = Fields { word, used: 0 };
+    let holder = match fields.take(HOLDER_BITS) {
+        0 => None,
+        number => Some(number as usize - 1),
+    };
+    let head = head_word(holder) | fields.take(width);
+    let mut row = vec![Record::default(); tasks];
+    let mut cells = vec![head];
+    for record in &mut row {
+        record.phase = fields.take(PHASE_BITS) as u8;
+        record.priority = fields.take(PRIORITY_BITS) as u8;
+        let cleared = fields.take(1) == 1;
+        cells.push(content(record.known_phase(), cleared).encode());
+    }
+    let linked = fields.take(1) == 1;
+    let head_marks = fields.take(width);
+    let announcement_marks = fields.take(width);
+    for (task, record) in row.iter().enumerate() {
+        if let Some(helped) = record.known_phase().marked_announcement() {
+            if task != victim || linked {
+                cells[helped + 1] |= mark_of(task);
+            }
+        }
+    }
+    for (task, record) in row.iter_mut().enumerate() {
+        restore_saved(task, record, &cells);
+    }
+    restore_marks(
+        &mut row[victim],
+        &cells,
+        linked,
+        head_marks,
+        announcement_marks,
+        victim,
+    );
+    Configuration::of_parts(&cells, &row)
+}
+
+fn restore_marks(
+    record: &mut Record,
+    cells: &[u64],
+    linked: bool,
+    head_marks: u64,
+    announcement_marks: u64,
+    victim: usize,
+) {
+    let phase = record.known_phase();
+    if keeps_head(phase) && has_mark(cells[0], victim) {
+        record.head = value(record.head) | head_marks;
+    }
+    if matches!(phase, Phase::Validate(_)) {
+        record.announcement = match linked {
+            true => value(record.announcement) | announcement_marks,
+            false => Announcement::Operation(0).encode() | mark_of(victim),
+        };
+    }
+}
+
+fn head_word(holder: Option<usize>) -> u64 {
+    let holder = holder.map(|task| Holder { task, response: 0 });
+    Head { state: 0, holder }.encode()
+}
+
+fn content(phase: Phase, cleared: bool) -> Announcement {
+    match phase {
+        Phase::Idle | Phase::ReadOnly | Phase::Announce => Announcement::Empty,
+        _ if cleared => Announcement::Response(0),
+        _ => Announcement::Operation(0),
+    }
+}
+
+/// Saved words as they are at a settled point: those in the cells, or, if the own mark is gone, one that no cell has.
+fn restore_saved(task: usize, record: &mut Record, cells: &[u64]) {
+    let phase = record.known_phase();
+    let linked = has_mark(cells[0], task);
+    record.head = match phase {
+        Phase::LinkHead => cells[0],
+        _ if phase.is_exit() && phase != Phase::LoadExit => cells[0],
+        _ if !phase.is_after_link() => 0,
+        _ if linked => cells[0],
+        Phase::Apply(_) | Phase::ReloadApply(_) => head_word(None) | mark_of(task),
+        _ => head_word(phase.named_task()) | mark_of(task),
+    };
+    record.announcement = match phase {
+        Phase::LinkHelped(helped) => cells[helped + 1],
+        _ => phase.marked_announcement().map_or(0, |helped| cells[helped + 1]),
+    };
+}

@@ -1,0 +1,50 @@
+//! Runs a program on given input and takes what it prints.
+
+use std::fs::File;
+use std::io::{Read, Write};
+use std::path::{Path, PathBuf};
+use std::process::{Command, ExitStatus, Stdio};
+
+/// The program's path made absolute, so that it can be run in any folder.
+pub fn find_program(path: &str) -> Result<PathBuf, String> {
+    std::fs::canonicalize(path).map_err(|error| format!("{path}: {error}"))
+}
+
+/// Input through a pipe. The program may leave the rest of it unread; its output is at most a few lines.
+pub fn run_with_bytes(program: &Path, input: &[u8]) -> Result<Vec<u8>, String> {
+    let failed = |error: std::io::Error| format!("{}: {error}", program.display());
+    let mut child = Command::new(program)
+        .stdin(Stdio::piped())
+        .stdout(Stdio::piped())
+        .spawn()
+        .map_err(failed)?;
+    let mut pipe = child.stdin.take().expect("input is a pipe");
+    let _unread_rest = pipe.write_all(input);
+    drop(pipe);
+    let mut output = Vec::new();
+    let mut printed = child.stdout.take().expect("output is a pipe");
+    printed.read_to_end(&mut output).map_err(failed)?;
+    let status = child.wait().map_err(failed)?;
+    expect_own_end(program, status, output)
+}
+
+/// Input from the file `stdin` of a folder; the program runs in that folder.
+pub fn run_in_folder(program: &Path, folder: &Path) -> Result<Vec<u8>, String> {
+    let failed = |error: std::io::Error| format!("{}: {error}", program.display());
+    let input = File::open(folder.join("stdin")).map_err(failed)?;
+    let output = Command::new(program)
+        .current_dir(folder)
+        .stdin(input)
+        .stderr(Stdio::inherit())
+        .output()
+        .map_err(failed)?;
+    expect_own_end(program, output.status, output.stdout)
+}
+
+/// No document gives an exit status, so any will do; a program that a signal ended has failed.
+fn expect_own_end(program: &Path, status: ExitStatus, output: Vec<u8>) -> Result<Vec<u8>, String> {
+    match status.code() {
+        Some(_) => Ok(output),
+        None => Err(format!("{}: {status}", program.display())),
+    }
+}

@@ -1,0 +1,240 @@
+//! Long random schedules of up to eight tasks, with a whole book and a check of its order.
+
+use std::collections::{HashMap, HashSet};
+
+use crate::book::{Begun, Book};
+use crate::configuration::{Call, CallAnswer, Configuration};
+use crate::machine::Answer;
+use crate::random::Random;
+use crate::table::Table;
+use crate::transition::System;
+
+/// An operation that ended: when it began and ended, and its response.
+struct EndedOperation {
+    begun: Begun,
+    end: usize,
+    response: u16,
+}
+
+pub struct Findings {
+    pub calls: usize,
+    pub ended: usize,
+    pub most_own_steps: u32,
+}
+
+/// Makes a number of calls, checks each, and at the end replays the order.
+pub fn run(system: System, tasks: usize, calls: usize, seed: u64) -> Result<Findings, String> {
+    let mut point = Configuration::started(system.table, tasks)
+        .map_err(|refusal| format!("start answers {}", refusal.number()))?;
+    let mut book = Book::new(system.table, tasks);
+    let mut schedule = Schedule::new(tasks, system.table.operations, seed);
+    let mut history = History::new(tasks);
+    for place in 0..calls {
+        let call = schedule.next_call(&point);
+        let (after, answer) = system
+            .make_checked(&point, call, &mut book)
+            .map_err(|message| format!("{message}\nseed {seed}, {tasks} tasks, call {place}: {call:?}"))?;
+        history.note(place, call, answer);
+        point = after;
+    }
+    history.check_order(system.table, &book)?;
+    Ok(Findings {
+        calls,
+        ended: history.ended.len(),
+        most_own_steps: history.most_own_steps,
+    })
+}
+
+/// Chooses calls: single steps in turn, bursts of one task, tasks that stop for a long time, refused calls.
+struct Schedule {
+    random: Random,
+    tasks: usize,
+    operations: usize,
+    burst: usize,
+    favourite: usize,
+    stopped: usize,
+}
+
+impl Schedule {
+    fn new(tasks: usize, operations: usize, seed: u64) -> Schedule {
+        Schedule {
+            random: Random::new(seed),
+            tasks,
+            operations,
+            burst: 0,
+            favourite: 0,
+            stopped: 0,
+        }
+    }
+
+    fn next_call(&mut self, point: &Configuration) -> Call {
+        if self.random.chance(1, 200) {
+            return self.any_call();
+        }
+        let task = self.choose_task();
+        match point.record(task).is_pending() {
+            true => Call::Step { task },
+            false => Call::Begin {
+                task,
+                operation: self.random.below(self.operations),
+            },
+        }
+    }
+
+    /// Numbers in range or not, whatever the task is doing.
+    fn any_call(&mut self) -> Call {
+        let task = self.random.below(self.tasks + 2);
+        match self.random.chance(1, 2) {
+            true => Call::Step { task },
+            false => Call::Begin {
+                task,
+                operation: self.random.below(self.operations + 2),
+            },
+        }
+    }
+
+    fn choose_task(&mut self) -> usize {
+        if self.burst == 0 {
+            self.favourite = self.random.below(self.tasks);
+            self.burst = match self.random.below(4) {
+                0 => self.random.between(1, 40),
+                1 => self.random.between(1, 6),
+                _ => 1,
+            };
+        }
+        if self.random.chance(1, 300) {
+            self.stopped = self.random.below(1 << self.tasks);
+        }
+        self.burst -= 1;
+        if self.stopped >> self.favourite & 1 == 1 && self.random.chance(9, 10) {
+            return self.random.below(self.tasks);
+        }
+        self.favourite
+    }
+}
+
+/// What the calls and answers say, without a look at cells and records.
+struct History {
+    pending: Vec<Option<Begun>>,
+    ended: Vec<EndedOperation>,
+    most_own_steps: u32,
+}
+
+impl History {
+    fn new(tasks: usize) -> History {
+        History {
+            pending: vec![None; tasks],
+            ended: Vec::new(),
+            most_own_steps: 0,
+        }
+    }
+
+    fn note(&mut self, place: usize, call: Call, answer: CallAnswer) {
+        match (call, answer) {
+            (Call::Begin { task, operation }, Ok(_)) => {
+                self.pending[task] = Some(Begun {
+                    task,
+                    operation,
+                    place,
+                });
+            }
+            (Call::Step { task }, Ok(Some(Answer::Ended { response, steps }))) => {
+                let begun = self.pending[task]
+                    .take()
+                    .expect("an operation that ends has begun");
+                self.most_own_steps = self.most_own_steps.max(steps);
+                self.ended.push(EndedOperation {
+                    begun,
+                    end: place,
+                    response,
+                });
+            }
+            _ => {}
+        }
+    }
+
+    /// Every ended operation stands in the order once, pending ones at most once and no others; the replay gives
+    /// the responses; an operation that ended before another began stands before it.
+    fn check_order(&self, table: &Table, book: &Book) -> Result<(), String> {
+        let end_of =
+            |operation: &EndedOperation| (operation.begun.place, (operation.end, operation.response));
+        let mut ends: HashMap<usize, (usize, u16)> = self.ended.iter().map(end_of).collect();
+        let mut still_pending: HashSet<usize> =
+            self.pending.iter().flatten().map(|begun| begun.place).collect();
+        let mut state = table.start;
+        let mut latest_begin = 0;
+        for begun in &book.order {
+            let entry = table.entry(state, begun.operation);
+            state = usize::from(entry.next);
+            latest_begin = latest_begin.max(begun.place);
+            match ends.remove(&begun.place) {
+                Some((end, response)) if end > latest_begin && response == entry.response => {}
+                None if still_pending.remove(&begun.place) => {}
+                other => return Err(format!("order: {begun:?} ends as {other:?}")),
+            }
+        }
+        match ends.is_empty() && state == book.state {
+            true => Ok(()),
+            false => Err("order: an ended operation is missing".to_string()),
+        }
+    }
+}
+
+#[cfg(test)]
+mod tests {
+    use super::*;
+    use crate::machine;
+    use crate::objects::explored_objects;
+
+    #[test]
+    fn schedules_of_all_numbers_of_tasks_keep_the_rules() {
+        for (_, table) in &explored_objects() {
+            let advance = machine::advance;
+            for tasks in 1..=8 {
+                let findings = run(System { table, advance }, tasks, 3_000, 5).unwrap();
+                assert!(findings.ended > 20, "{tasks} tasks: {}", findings.ended);
+            }
+        }
+    }
+
+    fn history_of_one(response: u16) -> (History, Book, Table) {
+        let (_, table) = explored_objects().remove(0);
+        let mut history = History::new(1);
+        let answer = Answer::Ended { response, steps: 1 };
+        history.note(
+            0,
+            Call::Begin {
+                task: 0,
+                operation: 0,
+            },
+            Ok(None),
+        );
+        history.note(1, Call::Step { task: 0 }, Ok(Some(answer)));
+        let book = Book::new(&table, 1);
+        (history, book, table)
+    }
+
+    const READ: Begun = Begun {
+        task: 0,
+        operation: 0,
+        place: 0,
+    };
+
+    #[test]
+    fn an_order_that_replays_is_accepted() {
+        let (history, mut book, table) = history_of_one(0);
+        book.order.push(READ);
+        assert_eq!(history.check_order(&table, &book), Ok(()));
+    }
+
+    #[test]
+    fn wrong_orders_are_found() {
+        let (history, mut book, table) = history_of_one(0);
+        assert!(history.check_order(&table, &book).is_err());
+        book.order = vec![READ, READ];
+        assert!(history.check_order(&table, &book).is_err());
+        let (history, mut book, table) = history_of_one(1);
+        book.order = vec![READ];
+        assert!(history.check_order(&table, &book).is_err());
+    }
+}
