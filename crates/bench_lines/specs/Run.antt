@@ -1,6 +1,6 @@
 -- Document 01, "The bench": how a command is served. The bench holds nine cells and nine records; a run of n tasks has the
 -- first n + 1 and the first n of them, and before an accepted start n is 0.
-use mathlib.Core.Path.{_≡_}
+use mathlib.Core.Path.{_≡_, refl}
 use mathlib.Core.Bool.{Bool, true, false, not, _&&_, cond}
 use mathlib.Core.List.{List, _++_}
 use Prim.Native.Nat.{ℕ, zero, suc, _+_}
@@ -120,9 +120,13 @@ unfoldable pub finishFrom : ℕ → List ℕ → ℕ → Served → Served
 finishFrom zero file t out = out
 finishFrom (suc k) file t out = cond (runsOn (out .reply)) (finishFrom k file t (stepBench file (out .bench) t)) out
 
--- The greatest ceiling of own steps.
-abbrev pub mostTurns : ℕ
+-- The greatest ceiling of own steps. It is shut, so that nothing counts down from it; a law says which number it is.
+pub mostTurns : ℕ
 mostTurns = 512000
+
+pub most-turns : mostTurns ≡ 512000
+unfolding mostTurns
+most-turns = refl
 
 -- A first step, and as many more as that.
 abbrev pub finishBench : List ℕ → Bench → ℕ → Served

@@ -1,9 +1,9 @@
 -- What is left to do from here gives the result of the whole.
-use mathlib.Core.Path.{_≡_, _∙_, refl, ap, sym}
-use Prim.Native.Nat.{_-_}
+use mathlib.Core.Path.{_≡_, _∙_, ap, sym}
+use Prim.Native.Nat.{ℕ, _-_}
 use native.Mathlib.Omega.{arith}
 use borrow.Author.Needs.{needs}
-use Rattle.bench_lines.specs.Run.{mostTurns, finishFrom}
+use Rattle.bench_lines.specs.Run.{mostTurns, most-turns, finishFrom}
 use Rattle.bench_lines.proofs.Runs.{finish-more, finish-last, finish-none}
 use Rattle.bench_lines.proofs.run.finish.Statement.{statement}
 use Rattle.bench_lines.proofs.run.finish.Tie as tie
@@ -18,7 +18,9 @@ step-requires : tie.Need-step-requires Inv-loop μ-loop
 step-requires c κs = search needs
 
 loop-holds : tie.Need-loop-holds Inv-loop μ-loop
-loop-holds c = refl
+loop-holds c =
+    let a = c .before .before .args in
+    ap (λ (k : ℕ). finishFrom k (a .file .now) (a .task) (c .step .result)) (sym most-turns)
 
 runs-on-requires : tie.Need-runs-on-requires Inv-loop μ-loop
 runs-on-requires c κs = search needs
