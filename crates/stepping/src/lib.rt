@@ -1,5 +1,4 @@
-// One task's part of a call, by value: the record and its forms, the phases, the one access of a step, and what follows
-// from it.
+// One task's part of a call, by value: the tests, the one access of a step, and what follows from it.
 pub mod access;
 mod advance;
 pub mod call;
