@@ -35,17 +35,18 @@ pub fn search_for(tasks: &[usize]) -> Result<(), String> {
     Ok(())
 }
 
-/// The longest of several searches that differ in their seeds and in how many helpers the opening parks.
+/// The longest of several searches: one without chance, the others with different seeds.
 fn longest_found(tasks: usize) -> Found {
     let table = still();
     let chase = Chase::of_still(&table);
+    let opening = Opening::new(&chase, tasks);
     let attempt = |seed: u64| {
         let effort = Effort {
             width: WIDTHS[tasks - 1],
             chance: if seed == 0 { 0 } else { CHANCE },
             seed,
         };
-        search(chase, &Opening::new(&chase, tasks, usize::MAX), effort)
+        search(chase, &opening, effort)
     };
     let found = (0..SEEDS).map(attempt);
     found

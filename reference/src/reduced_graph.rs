@@ -164,6 +164,15 @@ mod tests {
     }
 
     #[test]
+    fn points_are_unpacked_as_they_were_packed() {
+        let table = still();
+        let graph = ReducedGraph::explore(Chase::of_still(&table), 2);
+        for &packed in &graph.points {
+            assert_eq!(pack(&unpack(packed, 2, 0), 0), packed);
+        }
+    }
+
+    #[test]
     fn a_settled_point_has_the_same_longest_count_in_both_explorations() {
         let table = still();
         let chase = Chase::of_still(&table);
