@@ -68,17 +68,21 @@ fn after_response(point: &Configuration) -> i32 {
 
 /// The cycles in which somebody else can still be applied before the victim.
 fn cycles(point: &Configuration, victim: usize) -> i32 {
+    distance(point, victim) as i32 * (full_free(point) + full_held(point))
+}
+
+/// How often somebody else can still be applied before the victim. Of several tasks that pass it by, one succeeds.
+pub fn distance(point: &Configuration, victim: usize) -> usize {
     let tasks = point.tasks;
     let passes_by = |task: usize| {
         let record = point.record(task);
         let applies_other = matches!(record.known_phase(), Phase::Apply(other) if other != victim);
         usize::from(record.priority) == victim && applies_other
     };
-    let plain: usize = (0..tasks)
+    let by_priorities: usize = (0..tasks)
         .map(|task| (tasks + victim - usize::from(point.record(task).priority)) % tasks)
         .sum();
-    let distance = plain + if (0..tasks).any(passes_by) { tasks } else { 0 };
-    distance as i32 * (full_free(point) + full_held(point))
+    by_priorities + if (0..tasks).any(passes_by) { tasks } else { 0 }
 }
 
 /// The head has no holder.
