@@ -14,6 +14,7 @@ struct Price {
     announcement: i32,
 }
 
+/// While the victim is about to link, a change costs it a round.
 const ROUNDS: Price = Price {
     link: 3,
     announcement: 5,
@@ -24,6 +25,7 @@ const OWN_HELD: i32 = 9;
 /// What comes after the response.
 const AFTER_RESPONSE: i32 = 16;
 
+/// The guess for a settled point at which the victim's operation is pending.
 pub fn estimate(point: &Configuration, victim: usize) -> i32 {
     let holder = point.holder().map(|holder| holder.task);
     match holder {
@@ -44,35 +46,43 @@ fn count_others(point: &Configuration) -> i32 {
     point.tasks as i32 - 1
 }
 
+/// The part of a whole cycle in which the head has no holder.
 fn full_free(point: &Configuration) -> i32 {
     ROUNDS.link * count_others(point) + OWN_FREE
 }
 
+/// The part of a whole cycle in which the head holds another task's operation.
 fn full_held(point: &Configuration) -> i32 {
     (ROUNDS.link + 2 * ROUNDS.announcement) * count_others(point) + OWN_HELD
 }
 
+/// The last cycle, in which the head holds the victim's operation.
 fn held_by_victim(point: &Configuration) -> i32 {
     (ROUNDS.link + ROUNDS.announcement) * count_others(point) + OWN_HELD + after_response(point)
 }
 
+/// What is left when the response is handed over while the victim is about to read the head.
 fn after_response(point: &Configuration) -> i32 {
     AFTER_RESPONSE + 4 * count_others(point)
 }
 
 /// The cycles in which somebody else can still be applied before the victim.
 fn cycles(point: &Configuration, victim: usize) -> i32 {
+    distance(point, victim) as i32 * (full_free(point) + full_held(point))
+}
+
+/// How often somebody else can still be applied before the victim. Of several tasks that pass it by, one succeeds.
+pub fn distance(point: &Configuration, victim: usize) -> usize {
     let tasks = point.tasks;
     let passes_by = |task: usize| {
         let record = point.record(task);
         let applies_other = matches!(record.known_phase(), Phase::Apply(other) if other != victim);
         usize::from(record.priority) == victim && applies_other
     };
-    let plain: usize = (0..tasks)
+    let by_priorities: usize = (0..tasks)
         .map(|task| (tasks + victim - usize::from(point.record(task).priority)) % tasks)
         .sum();
-    let distance = plain + if (0..tasks).any(passes_by) { tasks } else { 0 };
-    distance as i32 * (full_free(point) + full_held(point))
+    by_priorities + if (0..tasks).any(passes_by) { tasks } else { 0 }
 }
 
 /// The head has no holder.
@@ -129,6 +139,7 @@ fn held(point: &Configuration, victim: usize, holder: usize) -> i32 {
     sum + own - spent(point, victim) + lost(point, victim)
 }
 
+/// A victim that has linked repeats only its swap and a read.
 fn held_price(point: &Configuration, victim: usize, phase: Phase) -> Price {
     let linked = point.is_linked_to_head(victim);
     match phase {
@@ -212,6 +223,7 @@ fn cleared(point: &Configuration, victim: usize) -> i32 {
     }
 }
 
+/// The victim has linked the head and its mark stands.
 fn victim_is_linked(point: &Configuration, victim: usize) -> bool {
     point.is_linked_to_head(victim) && point.record(victim).known_phase().is_after_link()
 }
@@ -228,6 +240,7 @@ fn spent(point: &Configuration, victim: usize) -> i32 {
     }
 }
 
+/// Steps of a cleared victim since it linked the head.
 fn pending_place(phase: Phase) -> i32 {
     match phase {
         Phase::LinkHelped(_) => 1,
@@ -251,5 +264,34 @@ fn lost(point: &Configuration, victim: usize) -> i32 {
         Phase::Validate(_) | Phase::ReloadRelease(_) => 5,
         Phase::Release(_) => 4,
         _ => 2,
+    }
+}
+
+#[cfg(test)]
+mod tests {
+    use super::*;
+    use crate::objects::still;
+    use crate::opening::Opening;
+    use crate::reduced::Chase;
+
+    #[test]
+    fn a_cycle_is_guessed_at_sixteen_steps_for_each_task() {
+        let table = still();
+        for tasks in 2..=8 {
+            let point = Opening::new(&Chase::of_still(&table), tasks).point;
+            let distance = (tasks * (tasks - 1) + 1) as i32;
+            assert_eq!(cycles(&point, 0), distance * 16 * tasks as i32);
+        }
+    }
+
+    #[test]
+    fn the_last_step_is_guessed_at_one() {
+        let table = still();
+        let chase = Chase::of_still(&table);
+        let mut point = Opening::new(&chase, 1).point;
+        while point.record(0).known_phase() != Phase::Retract {
+            chase.go_on(&mut point, 0, &mut Vec::new());
+        }
+        assert_eq!(estimate(&point, 0), 1);
     }
 }

@@ -35,17 +35,18 @@ pub fn search_for(tasks: &[usize]) -> Result<(), String> {
     Ok(())
 }
 
-/// The longest of several searches that differ in their seeds and in how many helpers the opening parks.
+/// The longest of several searches: one without chance, the others with different seeds.
 fn longest_found(tasks: usize) -> Found {
     let table = still();
     let chase = Chase::of_still(&table);
+    let opening = Opening::new(&chase, tasks);
     let attempt = |seed: u64| {
         let effort = Effort {
             width: WIDTHS[tasks - 1],
             chance: if seed == 0 { 0 } else { CHANCE },
             seed,
         };
-        search(chase, &Opening::new(&chase, tasks, usize::MAX), effort)
+        search(chase, &opening, effort)
     };
     let found = (0..SEEDS).map(attempt);
     found
@@ -85,7 +86,7 @@ fn counts_alone(tasks: usize) -> Result<String, String> {
     })
 }
 
-/// A line for each number of tasks: the exact longest operation over all objects and all schedules.
+/// For each number of tasks the exact longest operation over all objects and all schedules, and its parts.
 pub fn exact_for(tasks: &[usize]) -> Result<(), String> {
     for &tasks in tasks {
         if tasks > MOST_EXACT_TASKS {
@@ -95,7 +96,8 @@ pub fn exact_for(tasks: &[usize]) -> Result<(), String> {
         }
         let table = still();
         let graph = ReducedGraph::explore(Chase::of_still(&table), tasks);
-        let found = graph.longest_operation()?;
+        let longest = graph.longest_counts()?;
+        let found = graph.longest_operation(&longest)?;
         verify(tasks, &found)?;
         println!(
             "n {tasks}: {} points, longest operation {} own steps in {} calls",
@@ -103,6 +105,9 @@ pub fn exact_for(tasks: &[usize]) -> Result<(), String> {
             found.own_steps,
             found.calls.len()
         );
+        let (after_response, by_distance) = graph.longest_by_part(&longest);
+        println!("n {tasks}: after the response at most {after_response} own steps");
+        println!("n {tasks}: with a free head, by applies of others to come: {by_distance:?}");
     }
     Ok(())
 }

@@ -5,6 +5,7 @@
 
 use crate::cells::{has_mark, mark_of, value, Announcement, Head, Holder};
 use crate::configuration::Configuration;
+use crate::machine::{announcement_cell, HEAD_CELL};
 use crate::phase::Phase;
 use crate::record::Record;
 
@@ -41,103 +42,108 @@ fn marks(word: u64) -> u64 {
 
 pub fn pack(point: &Configuration, victim: usize) -> u64 {
     let width = point.tasks as u32;
+    let holder = point.holder().map_or(0, |holder| holder.task as u64 + 1);
     let mut fields = Fields { word: 0, used: 0 };
-    fields.put(
-        point.holder().map_or(0, |holder| holder.task as u64 + 1),
-        HOLDER_BITS,
-    );
+    fields.put(holder, HOLDER_BITS);
     fields.put(marks(point.head()), width);
     for (task, record) in point.row().iter().enumerate() {
         fields.put(u64::from(record.phase), PHASE_BITS);
         fields.put(u64::from(record.priority), PRIORITY_BITS);
         fields.put(u64::from(point.is_cleared(task)), 1);
     }
-    let record = point.record(victim);
-    let phase = record.known_phase();
-    let helped = phase.marked_announcement();
-    let linked = helped.is_some_and(|helped| point.is_linked_to(victim, helped));
-    fields.put(u64::from(linked), 1);
-    let keeps_head = keeps_head(phase) && point.is_linked_to_head(victim);
-    fields.put(if keeps_head { marks(record.head) } else { 0 }, width);
-    let keeps_announcement = matches!(phase, Phase::Validate(_)) && linked;
-    fields.put(
-        if keeps_announcement {
-            marks(record.announcement)
-        } else {
-            0
-        },
-        width,
-    );
+    let kept = Kept::of(point, victim);
+    fields.put(u64::from(kept.linked), 1);
+    fields.put(kept.head_marks, width);
+    fields.put(kept.announcement_marks, width);
     fields.word
+}
+
+/// What is kept of the victim's links and saved words; marks that are not needed are 0.
+struct Kept {
+    /// The own mark stands in the helped announcement.
+    linked: bool,
+    head_marks: u64,
+    announcement_marks: u64,
+}
+
+impl Kept {
+    fn of(point: &Configuration, victim: usize) -> Kept {
+        let record = point.record(victim);
+        let phase = record.known_phase();
+        let helped = phase.marked_announcement();
+        let linked = helped.is_some_and(|helped| point.is_linked_to(victim, helped));
+        let head_kept = keeps_head(phase) && point.is_linked_to_head(victim);
+        let announcement_kept = keeps_announcement(phase) && linked;
+        Kept {
+            linked,
+            head_marks: if head_kept { marks(record.head) } else { 0 },
+            announcement_marks: if announcement_kept {
+                marks(record.announcement)
+            } else {
+                0
+            },
+        }
+    }
+
+    /// Puts the marks back into the saved words of the victim's record.
+    fn restore(&self, record: &mut Record, victim: usize, head: u64) {
+        let phase = record.known_phase();
+        if keeps_head(phase) && has_mark(head, victim) {
+            record.head = value(record.head) | self.head_marks;
+        }
+        if keeps_announcement(phase) {
+            record.announcement = match self.linked {
+                true => value(record.announcement) | self.announcement_marks,
+                false => Announcement::Operation(0).encode() | mark_of(victim),
+            };
+        }
+    }
 }
 
 /// Phases whose saved head is compared later, not now.
 fn keeps_head(phase: Phase) -> bool {
-    phase.is_after_link()
-        && !matches!(
-            phase,
-            Phase::Apply(_) | Phase::ReloadApply(_) | Phase::ClearHead | Phase::ReloadClear
-        )
+    let now = matches!(
+        phase,
+        Phase::Apply(_) | Phase::ReloadApply(_) | Phase::ClearHead | Phase::ReloadClear
+    );
+    phase.is_after_link() && !now
+}
+
+/// The phase whose saved announcement is compared later, not now.
+fn keeps_announcement(phase: Phase) -> bool {
+    matches!(phase, Phase::Validate(_))
 }
 
 pub fn unpack(word: u64, tasks: usize, victim: usize) -> Configuration {
     let width = tasks as u32;
     let mut fields = Fields { word, used: 0 };
-    let holder = match fields.take(HOLDER_BITS) {
-        0 => None,
-        number => Some(number as usize - 1),
-    };
-    let head = head_word(holder) | fields.take(width);
+    let holder = (fields.take(HOLDER_BITS) as usize).checked_sub(1);
+    let mut cells = vec![head_word(holder) | fields.take(width)];
     let mut row = vec![Record::default(); tasks];
-    let mut cells = vec![head];
     for record in &mut row {
         record.phase = fields.take(PHASE_BITS) as u8;
         record.priority = fields.take(PRIORITY_BITS) as u8;
         let cleared = fields.take(1) == 1;
         cells.push(content(record.known_phase(), cleared).encode());
     }
-    let linked = fields.take(1) == 1;
-    let head_marks = fields.take(width);
-    let announcement_marks = fields.take(width);
+    let kept = Kept {
+        linked: fields.take(1) == 1,
+        head_marks: fields.take(width),
+        announcement_marks: fields.take(width),
+    };
     for (task, record) in row.iter().enumerate() {
-        if let Some(helped) = record.known_phase().marked_announcement() {
-            if task != victim || linked {
-                cells[helped + 1] |= mark_of(task);
+        match record.known_phase().marked_announcement() {
+            Some(helped) if task != victim || kept.linked => {
+                cells[announcement_cell(helped)] |= mark_of(task);
             }
+            _ => {}
         }
     }
     for (task, record) in row.iter_mut().enumerate() {
         restore_saved(task, record, &cells);
     }
-    restore_marks(
-        &mut row[victim],
-        &cells,
-        linked,
-        head_marks,
-        announcement_marks,
-        victim,
-    );
+    kept.restore(&mut row[victim], victim, cells[HEAD_CELL]);
     Configuration::of_parts(&cells, &row)
-}
-
-fn restore_marks(
-    record: &mut Record,
-    cells: &[u64],
-    linked: bool,
-    head_marks: u64,
-    announcement_marks: u64,
-    victim: usize,
-) {
-    let phase = record.known_phase();
-    if keeps_head(phase) && has_mark(cells[0], victim) {
-        record.head = value(record.head) | head_marks;
-    }
-    if matches!(phase, Phase::Validate(_)) {
-        record.announcement = match linked {
-            true => value(record.announcement) | announcement_marks,
-            false => Announcement::Operation(0).encode() | mark_of(victim),
-        };
-    }
 }
 
 fn head_word(holder: Option<usize>) -> u64 {
@@ -156,17 +162,19 @@ fn content(phase: Phase, cleared: bool) -> Announcement {
 /// Saved words as they are at a settled point: those in the cells, or, if the own mark is gone, one that no cell has.
 fn restore_saved(task: usize, record: &mut Record, cells: &[u64]) {
     let phase = record.known_phase();
-    let linked = has_mark(cells[0], task);
+    let linked = has_mark(cells[HEAD_CELL], task);
     record.head = match phase {
-        Phase::LinkHead => cells[0],
-        _ if phase.is_exit() && phase != Phase::LoadExit => cells[0],
+        Phase::LinkHead => cells[HEAD_CELL],
+        _ if phase.is_exit() && phase != Phase::LoadExit => cells[HEAD_CELL],
         _ if !phase.is_after_link() => 0,
-        _ if linked => cells[0],
+        _ if linked => cells[HEAD_CELL],
         Phase::Apply(_) | Phase::ReloadApply(_) => head_word(None) | mark_of(task),
         _ => head_word(phase.named_task()) | mark_of(task),
     };
     record.announcement = match phase {
-        Phase::LinkHelped(helped) => cells[helped + 1],
-        _ => phase.marked_announcement().map_or(0, |helped| cells[helped + 1]),
+        Phase::LinkHelped(helped) => cells[announcement_cell(helped)],
+        _ => phase
+            .marked_announcement()
+            .map_or(0, |helped| cells[announcement_cell(helped)]),
     };
 }

@@ -1,6 +1,8 @@
 //! All settled points of a chase over the object that stands still, and the victim's longest operation among them.
 
+use crate::cells::Announcement;
 use crate::configuration::Configuration;
+use crate::estimate::distance;
 use crate::longest::{longest_from_all, Counted};
 use crate::longest_path::longest_path;
 use crate::packed_point::{pack, unpack, MOST_PACKED_TASKS};
@@ -91,14 +93,37 @@ impl<'a> ReducedGraph<'a> {
         }
     }
 
+    /// For each point the longest count of the victim's own steps from there on.
+    pub fn longest_counts(&self) -> Result<Vec<u32>, String> {
+        longest_from_all(self)
+    }
+
+    /// The longest counts from points at which the response has been handed over, and from those at which the
+    /// operation waits and the head is free, these by how often somebody else can still be applied before it.
+    pub fn longest_by_part(&self, longest: &[u32]) -> (u32, Vec<u32>) {
+        let victim = self.chase.victim;
+        let mut after_response = 0;
+        let mut by_distance = Vec::new();
+        for (&packed, &count) in self.points.iter().zip(longest) {
+            let point = unpack(packed, self.tasks, victim);
+            if point.is_cleared(victim) {
+                after_response = count.max(after_response);
+            } else if point.content(victim) != Announcement::Empty && point.holder().is_none() {
+                let distance = distance(&point, victim);
+                by_distance.resize(by_distance.len().max(distance + 1), 0);
+                by_distance[distance] = count.max(by_distance[distance]);
+            }
+        }
+        (after_response, by_distance)
+    }
+
     /// The longest operation of the victim, with a whole schedule that makes it.
-    pub fn longest_operation(&self) -> Result<Found, String> {
-        let longest = longest_from_all(self)?;
+    pub fn longest_operation(&self, longest: &[u32]) -> Result<Found, String> {
         let own_steps = longest.iter().copied().max().unwrap_or(0);
         let best = longest.iter().position(|&count| count == own_steps);
         let best = best.ok_or("nothing was explored")?;
         let mut moves = self.way_to(best);
-        moves.extend(longest_path(self, &longest, best));
+        moves.extend(longest_path(self, longest, best));
         let (mut point, mut calls) = self.start();
         for task in moves {
             self.chase.go_on(&mut point, task, &mut calls);
@@ -154,7 +179,7 @@ mod tests {
         let table = still();
         for (tasks, stated) in [(1, 17), (2, 124)] {
             let graph = ReducedGraph::explore(Chase::of_still(&table), tasks);
-            let found = graph.longest_operation().unwrap();
+            let found = graph.longest_operation(&graph.longest_counts().unwrap()).unwrap();
             assert_eq!(found.own_steps, stated);
             for (name, table, operation) in changing_objects() {
                 let replayed = replay(&table, operation, tasks, 0, &found.calls);
@@ -164,11 +189,28 @@ mod tests {
     }
 
     #[test]
+    fn each_apply_of_another_adds_at_most_31_steps_for_two_tasks() {
+        let table = still();
+        let graph = ReducedGraph::explore(Chase::of_still(&table), 2);
+        let parts = graph.longest_by_part(&graph.longest_counts().unwrap());
+        assert_eq!(parts, (16, vec![40, 71, 101, 123]));
+    }
+
+    #[test]
+    fn points_are_unpacked_as_they_were_packed() {
+        let table = still();
+        let graph = ReducedGraph::explore(Chase::of_still(&table), 2);
+        for &packed in &graph.points {
+            assert_eq!(pack(&unpack(packed, 2, 0), 0), packed);
+        }
+    }
+
+    #[test]
     fn a_settled_point_has_the_same_longest_count_in_both_explorations() {
         let table = still();
         let chase = Chase::of_still(&table);
         let reduced = ReducedGraph::explore(chase, 2);
-        let reduced_counts = longest_from_all(&reduced).unwrap();
+        let reduced_counts = reduced.longest_counts().unwrap();
         let advance = machine::advance;
         let whole = Graph::explore(
             System {

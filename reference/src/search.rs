@@ -217,7 +217,7 @@ mod tests {
             chance: 0,
             seed: 0,
         };
-        search(chase, &Opening::new(&chase, tasks, usize::MAX), effort)
+        search(chase, &Opening::new(&chase, tasks), effort)
     }
 
     #[test]
