@@ -3,7 +3,6 @@
 use mathlib.Core.Path.{_≡_, refl}
 use mathlib.Core.Bool.{Bool, true, false, cond}
 use mathlib.Core.List.{List}
-use mathlib.Core.Logic.{_≢_}
 use Prim.Native.Nat.{ℕ, _+_}
 use lib.Dec.{eqb, ltb}
 use lib.ListN.{length, getD, length-set}
@@ -23,15 +22,9 @@ use Rattle.records.specs.Record.{readRecord}
 use Rattle.stepping.specs.Step.{planOf, touched, leftOf, performOf, cellInForm, usedInRange}
 use Rattle.stepping.specs.Call.{admitOf, Stepped, refuseStep, touch, stepFrom, stepIn, stepTask}
 use Rattle.stepping.proofs.Lists.{set-alike}
-use Rattle.stepping.specs.Statement.{accessFrom, accessIn, accessOf}
+use Rattle.stepping.specs.Statement.{accessFrom, accessIn, accessOf, Alike, Elsewhere}
 
 -- ---- Any two lists of cells that agree on the touched cell
-
--- Two outcomes with one answer and one record, which leave one word in cell k.
-pub record Alike (k : ℕ) (one other : Stepped) : Type 0 where
-  pub answer : one .answer ≡ other .answer
-  pub task : one .task ≡ other .task
-  pub word : getD (one .cells) k 0 ≡ getD (other .cells) k 0
 
 choice : {k : ℕ} (b : Bool) (x y x′ y′ : Stepped) → Alike k x x′ → Alike k y y′ → Alike k (cond b x y) (cond b x′ y′)
 choice true x y x′ y′ p q = p
@@ -75,19 +68,14 @@ module _ (file cells others : List ℕ) (n i : ℕ) (t : Task) (long : length ce
 -- ---- The other cells
 
 module _ (file cells : List ℕ) (n i : ℕ) (t : Task) where
-  -- An outcome that leaves as many cells, all but cell k as they were.
-  pub record Elsewhere (k : ℕ) (out : Stepped) : Type 0 where
-    pub long : length (out .cells) ≡ length cells
-    pub rest : (j : ℕ) → j ≢ k → getD (out .cells) j 0 ≡ getD cells j 0
-
-  either : {k : ℕ} (b : Bool) (x y : Stepped) → Elsewhere k x → Elsewhere k y → Elsewhere k (cond b x y)
+  either : {k : ℕ} (b : Bool) (x y : Stepped) → Elsewhere cells k x → Elsewhere cells k y → Elsewhere cells k (cond b x y)
   either true x y p q = p
   either false x y p q = q
 
-  refusal : (k : ℕ) (c : Refusal) → Elsewhere k (refuseStep cells t c)
+  refusal : (k : ℕ) (c : Refusal) → Elsewhere cells k (refuseStep cells t c)
   refusal k c = record { long = refl; rest = λ j h. refl }
 
-  kept-touch : (shape : Shape) (f : Phase) (a : Access) → Elsewhere (touched a) (touch file shape cells n i t f a)
+  kept-touch : (shape : Shape) (f : Phase) (a : Access) → Elsewhere cells (touched a) (touch file shape cells n i t f a)
   unfolding performOf
   kept-touch shape f a =
       let k = touched a in
@@ -98,13 +86,13 @@ module _ (file cells : List ℕ) (n i : ℕ) (t : Task) where
       (refusal k cause.Entry))
       (refusal k cause.Cell)
 
-  kept-from : (shape : Shape) (read : PhaseRead) → Elsewhere (touched (accessFrom file shape i t read)) (stepFrom file shape cells n i t read)
+  kept-from : (shape : Shape) (read : PhaseRead) → Elsewhere cells (touched (accessFrom file shape i t read)) (stepFrom file shape cells n i t read)
   kept-from shape (record-phase.Refused c) = refusal 0 c
   kept-from shape (record-phase.Known f) =
       let a = planOf file shape i t f in
       either (eqb (t .phase) 0) _ _ (refusal (touched a) cause.Idle) (kept-touch shape f a)
 
-  kept-in : (x : Admitted) → Elsewhere (touched (accessIn file n i t x)) (stepIn file cells n i t x)
+  kept-in : (x : Admitted) → Elsewhere cells (touched (accessIn file n i t x)) (stepIn file cells n i t x)
   kept-in (admitted.Refused c) = refusal 0 c
   kept-in (admitted.Accepted shape c) =
       let k = touched (accessIn file n i t (admitted.Accepted shape c)) in
@@ -113,6 +101,6 @@ module _ (file cells : List ℕ) (n i : ℕ) (t : Task) where
       (refusal k cause.Cells)
 
   -- A step changes no cell but the touched one.
-  pub step-elsewhere : Elsewhere (touched (accessOf file n i t)) (stepTask file cells n i t)
+  pub step-elsewhere : Elsewhere cells (touched (accessOf file n i t)) (stepTask file cells n i t)
   unfolding accessOf stepTask
   step-elsewhere = kept-in (admitOf file n)

@@ -15,9 +15,17 @@ use Rattle.machine.specs.Demand.{Shown, Demand}
 use Rattle.machine.proofs.OwnSteps.{own-record, next-step}
 use Rattle.machine.proofs.Pending.{pending-is}
 use Rattle.records.specs.declared.record.Task.{Task}
-use Rattle.stepping.specs.Statement.{Accepted, Demands, Refusals, Independent, Endings, Ends, accessOf, recordAfter, objectIn, shown}
+use Rattle.stepping.specs.Statement.{Local, OneCell, Accepted, Demands, Refusals, Independent, Endings, Ends, accessOf, recordAfter, objectIn, shown}
 use Rattle.stepping.proofs.Accesses.{encodeAccess}
 use Rattle.stepping.proofs.Demands.{demands, refused-started, history-started, answer-started, access-started, good}
+use Rattle.stepping.proofs.Local.{step-local, step-elsewhere}
+
+-- A step looks at one cell, and touches no other.
+pub looks-at-one-cell : (file cells others : List ℕ) (n i : ℕ) (t : Task) → Local file cells others n i t
+looks-at-one-cell file cells others n i t long e = step-local file cells others n i t long e
+
+pub touches-one-cell : (file cells : List ℕ) (n i : ℕ) (t : Task) → OneCell file cells n i t
+touches-one-cell file cells n i t = step-elsewhere file cells n i t
 
 module _ {file cells : List ℕ} {row : List Task} (a : Accepted file cells row) where
   pub demands-met : Demands a

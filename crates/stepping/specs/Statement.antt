@@ -1,10 +1,10 @@
 -- What is proved of start, begin and step, as types over the definitions of the calls. `proofs/Theorem.antt` has a proof of each.
 use mathlib.Core.Path.{_≡_}
 use mathlib.Core.Bool.{true, false}
-use mathlib.Core.Logic.{_↔_}
+use mathlib.Core.Logic.{_↔_, _≢_}
 use mathlib.Core.List.{List}
 use Prim.Native.Nat.{ℕ, _+_, _≤_}
-use lib.ListN.{length}
+use lib.ListN.{length, getD}
 use Rattle.refusal.specs.declared.Refusal.{Refusal}
 use Rattle.refusal.specs.Number.{numberOf}
 use Rattle.cells.specs.Image.{image}
@@ -25,8 +25,8 @@ use Rattle.stepping.specs.declared.call.Admitted.{Admitted}
 use Rattle.stepping.specs.declared.call.Admitted.the-variants as admitted
 use Rattle.stepping.specs.declared.call.StartAnswer.the-variants.{Started}
 use Rattle.records.specs.Record.{readRecord}
-use Rattle.stepping.specs.Step.{planOf}
-use Rattle.stepping.specs.Call.{admitOf, startOf, taskAt}
+use Rattle.stepping.specs.Step.{planOf, touched}
+use Rattle.stepping.specs.Call.{admitOf, startOf, Stepped, stepTask, taskAt}
 use Rattle.stepping.specs.Encoding.{ObjectTable, objectOf}
 use Rattle.stepping.specs.Runs.{Store, startStore, serveOf, runOf, historyOf, shownBy}
 
@@ -43,6 +43,27 @@ accessIn file n i t (admitted.Accepted shape c) = accessFrom file shape i t (rea
 
 unfoldable pub accessOf : List ℕ → (n i : ℕ) → Task → Access
 accessOf file n i t = accessIn file n i t (admitOf file n)
+
+-- Two outcomes with one answer and one record, which leave one word in cell k.
+pub record Alike (k : ℕ) (one other : Stepped) : Type 0 where
+  pub answer : one .answer ≡ other .answer
+  pub task : one .task ≡ other .task
+  pub word : getD (one .cells) k 0 ≡ getD (other .cells) k 0
+
+-- An outcome that leaves as many cells as there were, all but cell k as they were.
+pub record Elsewhere (cells : List ℕ) (k : ℕ) (out : Stepped) : Type 0 where
+  pub long : length (out .cells) ≡ length cells
+  pub rest : (j : ℕ) → j ≢ k → getD (out .cells) j 0 ≡ getD cells j 0
+
+-- Record, answer and written word of a step follow from the table, n, the record and what the touched cell holds alone.
+abbrev pub Local : (file cells others : List ℕ) (n i : ℕ) → Task → Type 0
+Local file cells others n i t =
+    length cells ≡ length others → getD cells (touched (accessOf file n i t)) 0 ≡ getD others (touched (accessOf file n i t)) 0
+    → Alike (touched (accessOf file n i t)) (stepTask file cells n i t) (stepTask file others n i t)
+
+-- A step touches one cell: every other one is as it was.
+abbrev pub OneCell : (file cells : List ℕ) (n i : ℕ) → Task → Type 0
+OneCell file cells n i t = Elsewhere cells (touched (accessOf file n i t)) (stepTask file cells n i t)
 
 -- ---- A run: an accepted start of a table, and then any list of calls
 
