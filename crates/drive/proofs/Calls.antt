@@ -1,5 +1,5 @@
 -- What a call on a row says at its exit, from what the call for one task says.
-use mathlib.Core.Path.{_≡_, ap, sym, _∙_}
+use mathlib.Core.Path.{_≡_, ap, _∙_}
 use mathlib.Core.List.{List}
 use Prim.Native.Nat.{ℕ, _≤_}
 use lib.ListN.{length, set, List·getD-eq-default}

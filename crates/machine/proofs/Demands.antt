@@ -15,7 +15,7 @@ use Rattle.machine.specs.Demand.{Shown, Demand}
 use Rattle.machine.specs.Kind.{off}
 use Rattle.machine.specs.Potential.{bound}
 use Rattle.machine.proofs.Booked.{legal-serve}
-use Rattle.machine.proofs.Keeps.{book-grows, sound, run-linearizable, order-stands}
+use Rattle.machine.proofs.Keeps.{history-append, book-grows, sound, run-linearizable, order-stands}
 use Rattle.machine.proofs.Rest.{rest-image}
 use Rattle.machine.proofs.OwnSteps.{own-record, next-step}
 use Rattle.machine.proofs.Pending.{pending-is}
@@ -47,6 +47,8 @@ module _ (b : Object) (n q : ℕ) (good : b .good q ≡ true) where
   -- Demands 2 and 3, with any ceiling that the proved bound doesn't pass.
   pub demand : (ceiling : ℕ) → bound n ≤ ceiling → Demand b n q ceiling image (machineShows b n q)
   demand ceiling h = record {
+    begins = refl;
+    told = λ xs x. history-append b n xs (x ∷ []) (start q);
     book = bookOf b n q;
     first = refl;
     legal = legal;

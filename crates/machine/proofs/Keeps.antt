@@ -45,11 +45,7 @@ module _ (b : Object) (n : ℕ) where
   kept-from place [] s = rest
   kept-from place (x ∷ xs) {c} {k} s = then (legal-serve b n place c k (s .related) (s .safe) (s .formed) x) (kept-from (suc place) xs (sound-serve place x s))
 
-  -- A list that goes on: the configuration, the history and the book are those from where the first part led.
-  pub run-append : (xs ys : List Call) (c : Config) → run b n (xs ++ ys) c ≡ run b n ys (run b n xs c)
-  run-append [] ys c = refl
-  run-append (x ∷ xs) ys c = run-append xs ys (serve b n x c .config)
-
+  -- A list that goes on: the history and the book are those from where the first part led.
   pub history-append : (xs ys : List Call) (c : Config) → history b n (xs ++ ys) c ≡ history b n xs c ++ history b n ys (run b n xs c)
   history-append [] ys c = refl
   history-append (x ∷ xs) ys c = ap (λ (es : List Event). record { call = x; answer = serve b n x c .answer } ∷ es) (history-append xs ys (serve b n x c .config))

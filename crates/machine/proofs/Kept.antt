@@ -1,10 +1,7 @@
--- A book kept along a history: its order only grows at its end, and histories are put one after the other.
+-- A book kept along a history: its order only grows at its end.
 use mathlib.Core.Path.{_≡_, refl, sym, _∙_, ap}
 use mathlib.Core.List.{List, [], _∷_, _++_, append-nil, append-assoc}
-use Prim.Native.Nat.{ℕ, suc, _+_}
-use native.Mathlib.Nat.{add-zero}
-use native.Mathlib.Omega.{arith}
-use lib.ListN.{length}
+use Prim.Native.Nat.{ℕ}
 use Rattle.machine.specs.Object.{Object}
 use Rattle.machine.specs.Run.{Call, Answer, Event}
 use Rattle.machine.specs.Book.{Operation, Extends, Book, Entering, none, enter, Booking, begun, begin-task, begin-operation, begin-pending, running-waiting, running-done, ended, step-task, step-idle, Kept, rest, then}
@@ -37,11 +34,3 @@ module _ {b : Object} where
     where
       booked : Extends (k .order) (k′ .order)
       booked = rw (booking-keeps (l .booking)) (entering-grows (l .entering))
-
-  -- A book kept along a history, and then along a second one that begins where the first ends, is kept along both.
-  pub kept-append : {n p : ℕ} {k k′ k″ : Book} {es fs : List Event} → Kept b n p k es k′ → Kept b n (p + length es) k′ fs k″ → Kept b n p k (es ++ fs) k″
-  kept-append rest g = rw add-zero at g
-  kept-append (then {place = p} {es = es} l f) g = then l (kept-append f (rw shift at g))
-    where
-      shift : p + suc (length es) ≡ suc p + length es
-      shift = omega arith

@@ -128,10 +128,3 @@ module _ (b : Object) (n : ℕ) where
 
     pub ended-steps : (x : Call) {r s : ℕ} → serve b n x (run b n xs (start q)) .answer ≡ Ended r s → s ≤ bound n
     ended-steps x = ended-within b n (safe-run b n xs q) (formed-run b n xs good) steps-bounded (serving b n (run b n xs (start q)) x)
-
-    -- The same by the ceiling of document 01.
-    pub pending-ceiling : (t : ℕ) → t < n → (kind (run b n xs (start q) .task t .phase) ≡ Off → ⊥) → run b n xs (start q) .task t .steps < 1000 * (n * n * n)
-    pending-ceiling t h z = omega (arith, pending-steps t h z, bound-ceiling n (omega arith))
-
-    pub ended-ceiling : (x : Call) {r s : ℕ} → 1 ≤ n → serve b n x (run b n xs (start q)) .answer ≡ Ended r s → s ≤ 1000 * (n * n * n)
-    ended-ceiling x h e = omega (arith, ended-steps x e, bound-ceiling n h)

@@ -25,6 +25,9 @@ Accepted (Refused r) = ⊥
 -- A run of n tasks over an object from state q: what it shows agrees with the plain book, with Herlihy and Wing, with the
 -- image of a state at rest, and with a ceiling of own steps.
 pub record Demand (b : Object) (n q ceiling : ℕ) {C : Type 0} (image : ℕ → C) (run : Shown C) : Type 0 where
+  -- The history is the calls so far, each with its answer.
+  pub begins : run .history [] ≡ []
+  pub told : (xs : List Call) (x : Call) → run .history (xs ++ (x ∷ [])) ≡ run .history xs ++ (record { call = x; answer = run .answer xs x } ∷ [])
   -- The plain book can be kept: it is a function of the calls so far, and each call with its answer is a legal step of it.
   pub book : List Call → Book
   pub first : book [] ≡ blank q

@@ -124,6 +124,8 @@ module _ (file : List ℕ) (shape : Shape) (table : ObjectTable file shape) (cel
 
   encoded-demands : (c : ℕ) → Demand (objectOf file shape table) n (shape .start) c image (machineShows (objectOf file shape table) n (shape .start)) → Demand (objectOf file shape table) n (shape .start) c (words.image n) encodedShows
   encoded-demands c d = record {
+    begins = d .begins;
+    told = d .told;
     book = d .book;
     first = d .first;
     legal = d .legal;

@@ -5,7 +5,6 @@ pub mod Ready
 pub mod Parts
 pub mod Refused
 pub mod Local
-pub mod Started
 pub mod Tables
 pub mod EncodedCells
 pub mod Records

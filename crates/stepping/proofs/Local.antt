@@ -15,7 +15,6 @@ use Rattle.records.specs.declared.phase.Phase.{Phase}
 use Rattle.records.specs.declared.phase.PhaseRead.{PhaseRead}
 use Rattle.records.specs.declared.phase.PhaseRead.the-variants as record-phase
 use Rattle.stepping.specs.declared.access.Access.{Access}
-use Rattle.stepping.specs.declared.access.Access.the-variants.{Read}
 use Rattle.stepping.specs.declared.call.Admitted.{Admitted}
 use Rattle.stepping.specs.declared.call.Admitted.the-variants as admitted
 use Rattle.records.specs.Record.{readRecord}

@@ -1,8 +1,7 @@
 -- The theorems about start, begin and step: a proof of each statement of specs/Statement.antt.
-use mathlib.Core.Path.{_≡_, refl, ap, sym, _∙_}
-use mathlib.Core.Bool.{true, false}
+use mathlib.Core.Path.{_≡_, ap, sym, _∙_}
 use mathlib.Core.List.{List}
-use Prim.Native.Nat.{ℕ, _+_}
+use Prim.Native.Nat.{ℕ}
 use lib.ListN.{length}
 use Rattle.cells.specs.Field.{pack}
 use Rattle.cells.specs.Image.{image}
@@ -12,10 +11,9 @@ use Rattle.machine.specs.Object.{Object}
 use Rattle.machine.specs.Run.{Call, Step, Event, history, start}
 use Rattle.machine.specs.History.{Pends, pending}
 use Rattle.machine.specs.Demand.{Shown, Demand}
-use Rattle.machine.proofs.OwnSteps.{own-record, next-step}
-use Rattle.machine.proofs.Pending.{pending-is}
+use Rattle.machine.proofs.OwnSteps.{next-step}
 use Rattle.records.specs.declared.record.Task.{Task}
-use Rattle.stepping.specs.Statement.{Local, OneCell, Accepted, Demands, Refusals, Independent, Endings, Ends, accessOf, recordAfter, objectIn, shown}
+use Rattle.stepping.specs.Statement.{Local, OneCell, Accepted, Demands, Refusals, Independent, Endings, objectIn}
 use Rattle.stepping.proofs.Accesses.{encodeAccess}
 use Rattle.stepping.proofs.Demands.{demands, refused-started, history-started, answer-started, access-started, good}
 use Rattle.stepping.proofs.Local.{step-local, step-elsewhere}

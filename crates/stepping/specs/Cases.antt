@@ -3,16 +3,16 @@ use Prim.Native.Nat.{ℕ}
 use mathlib.Core.Path.{_≡_, refl, sym, _∙_, ap₂}
 use mathlib.Core.Bool.{Bool, cond}
 use mathlib.Core.List.{List, [], _∷_, _++_, map, map-append}
-use lib.ListN.{length, getD, replicate, drop, set}
+use lib.ListN.{length, getD, replicate}
 use Rattle.cells.specs.Ceiling.{ceilingOf}
 use Rattle.cells.specs.declared.ceiling.Ceiling.{Ceiling}
 use Rattle.cells.specs.declared.ceiling.Ceiling.the-variants.{Steps, Refused}
 use Rattle.cells.specs.Field.{pack, unpack, total}
 use Rattle.cells.specs.Form.{marksInForm, inForm, headFieldsInForm, headInForm}
 use Rattle.cells.specs.Image.{image}
-use Rattle.cells.specs.Layout.{headWord, headOf}
+use Rattle.cells.specs.Layout.{headWord}
 use Rattle.cells.specs.declared.head.Head.the-variants.{Held}
-use Rattle.table.specs.Below.{allBelow, anyBelow}
+use Rattle.table.specs.Below.{allBelow}
 use Rattle.table.specs.Cases.{Case, flag}
 use Rattle.table.specs.Cases as file
 use Rattle.table.specs.Check.{checkOf}

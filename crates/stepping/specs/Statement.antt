@@ -13,7 +13,7 @@ use Rattle.cells.specs.declared.ceiling.Ceiling.the-variants.{Steps}
 use Rattle.table.specs.declared.Shape.{Shape}
 use Rattle.table.specs.Entries.{changing}
 use Rattle.machine.specs.Object.{Object}
-use Rattle.machine.specs.Run.{Call, Step, Answer, Ended, Refused}
+use Rattle.machine.specs.Run.{Call, Step, Ended, Refused}
 use Rattle.machine.specs.History.{Pends, pending, Rest}
 use Rattle.machine.specs.Demand.{Shown, Demand}
 use Rattle.records.specs.declared.record.Task.{Task}
@@ -28,7 +28,7 @@ use Rattle.records.specs.Record.{readRecord}
 use Rattle.stepping.specs.Step.{planOf, touched}
 use Rattle.stepping.specs.Call.{admitOf, startOf, Stepped, stepTask, taskAt}
 use Rattle.stepping.specs.Encoding.{ObjectTable, objectOf}
-use Rattle.stepping.specs.Runs.{Store, startStore, serveOf, runOf, historyOf, shownBy}
+use Rattle.stepping.specs.Runs.{startStore, runOf, shownBy}
 
 -- ---- The access of a step, from the table, n and the record, before a cell is looked at; a call that makes none counts as
 -- a read of the head
