@@ -156,6 +156,20 @@ distOf n p c x = dist n p (c .task x .priority) (row (c .task x .phase) .work)
 abbrev pub dists : (n p : ℕ) → Config → ℕ
 dists n p c = sum n (distOf n p c)
 
+-- ---- The weights
+
+-- The own steps that a change of a cell by another task may cost, since a saved word is stale then.
+abbrev pub changeWeight : ℕ
+changeWeight = 5
+
+-- The own steps that a lost mark in the head may cost: the way back to Poll.
+abbrev pub lostWeight : ℕ
+lostWeight = 13
+
+-- The greatest rank.
+abbrev pub greatestRank : ℕ
+greatestRank = 9
+
 -- ---- An operation that waits for its response
 
 -- What a stage change may cost, and what an operation may take once it has its response.
@@ -172,12 +186,12 @@ stages p d m (Held q j r) = either (ℕ-discrete j p) 1 (pick (waiting (content 
 
 -- The own place: in the loop, with a stale word, with the mark in the head lost.
 abbrev pub placeOf : Memory → ℕ → Row → ℕ
-placeOf m i r = r .position false + 5 * one (stale m (r .compared)) + 13 * one (r .linked && not (inHead m i))
+placeOf m i r = r .position false + changeWeight * one (stale m (r .compared)) + lostWeight * one (r .linked && not (inHead m i))
 
 abbrev pub waitingPotential : ℕ → Config → ℕ → ℕ
 waitingPotential n c p =
     stages p (dists n p c) (c .memory) (headValue (c .memory)) * stageWeight n
-    + 5 * ranks n c p
+    + changeWeight * ranks n c p
     + placeOf (c .memory) p (row (c .task p .phase))
     + reserve n
 
@@ -237,7 +251,7 @@ abbrev pub atHead : Memory → ℕ → Bool
 atHead m i = inHead m i || holds i (headValue m)
 
 abbrev pub headLoad : ℕ → Config → ℕ → ℕ
-headLoad n c i = ranks n c i + 1 + pick (unanswered (c .memory) (headValue (c .memory))) 9 0
+headLoad n c i = ranks n c i + 1 + pick (unanswered (c .memory) (headValue (c .memory))) greatestRank 0
 
 abbrev pub headPart : ℕ → Config → ℕ → ℕ
 headPart n c i = pick (atHead (c .memory) i) (headLoad n c i) 0
@@ -265,7 +279,7 @@ announcementAside n marks (Finishing j) = 0
 -- The own place, with the part of the head and the parts of the announcements.
 abbrev pub lasts : (n head : ℕ) → (ℕ → ℕ) → Memory → Row → ℕ
 lasts n head marks m r =
-    5 * (head + headAside n (r .work) + announcementAside n marks (r .work) + one (counts (r .work) && stale m (r .compared))) + r .position true
+    changeWeight * (head + headAside n (r .work) + announcementAside n marks (r .work) + one (counts (r .work) && stale m (r .compared))) + r .position true
 
 abbrev pub answeredPotential : ℕ → Config → ℕ → ℕ
 answeredPotential n c i = lasts n (headPart n c i) (markPart n c i) (c .memory) (row (c .task i .phase))
