@@ -8,4 +8,3 @@ pub mod WordMarks
 pub mod Images
 pub mod Counts
 pub mod Ceilings
-pub mod Cases
