@@ -21,7 +21,7 @@ use Rattle.stepping.specs.declared.call.StartAnswer.{StartAnswer}
 use Rattle.stepping.specs.declared.call.StartAnswer.the-variants as start
 use Rattle.stepping.specs.declared.call.BeginAnswer.{BeginAnswer}
 use Rattle.stepping.specs.declared.call.BeginAnswer.the-variants as begin
-use Rattle.stepping.specs.Call.{withRow, Started, startIn, startOf, Begun, beginOf, Served, stepOf}
+use Rattle.stepping.specs.Call.{withRow, Started, withCells, admitStartOf, startOf, Begun, beginOf, Served, stepOf}
 use Rattle.stepping.proofs.Refused.{refused-start, refused-begin-row, refused-step-row}
 use Rattle.drive.specs.First.{firstCount, startFirst, beginFirst, stepFirst}
 use Rattle.drive.proofs.Calls.{BeginSaid, StepSaid}
@@ -43,10 +43,10 @@ unfolding ceilingOf
 no-ceiling n h = simp (le-leb 1 n (omega arith), lt-leb n 8 h)
 
 pub long-start : (file cs : List ℕ) (ys zs : List Task) → 8 < length ys → 8 < length zs → startOf file cs ys .answer ≡ startOf file cs zs .answer
-unfolding startOf
+unfolding startOf admitStartOf
 long-start file cs ys zs h g = at (checkOf file)
   where
-    at : (checked : Checked) → startIn cs ys (withRow (length ys) checked) .answer ≡ startIn cs zs (withRow (length zs) checked) .answer
+    at : (checked : Checked) → withCells (length cs) (length ys) (withRow (length ys) checked) .answer ≡ withCells (length cs) (length zs) (withRow (length zs) checked) .answer
     at (table.Accepted shape) = rw (no-ceiling (length ys) h, no-ceiling (length zs) g) refl
     at (table.Refused c) = refl
 

@@ -19,7 +19,7 @@ use Rattle.stepping.specs.declared.call.StartAnswer.{StartAnswer}
 use Rattle.stepping.specs.declared.call.StartAnswer.the-variants as start
 use Rattle.records.specs.declared.record.Task.{Task}
 use Rattle.records.specs.Record.{idleTask}
-use Rattle.stepping.specs.Call.{idleRow, Started, withRow, startIn, startOf, withCells, admitStartOf}
+use Rattle.stepping.specs.Call.{idleRow, Started, withRow, filled, startOf, withCells, admitStartOf}
 use Rattle.stepping.proofs.Admission.{admitted-ranges}
 use Rattle.drive.specs.Start.{startedCells, idleCount}
 
@@ -72,12 +72,12 @@ StartSaid file cs ys cs′ ys′ a = _≡_ {A = Started} (record { cells = cs′
 abbrev parts : List ℕ → List Task → Start → Started
 parts cs ys found = record { cells = startedCells found cs; row = filledTo (idleCount (found .answer) (length ys)) ys; answer = found .answer }
 
-by-parts : (cs : List ℕ) (ys : List Task) (w : Admitted) → parts cs ys (withCells (length cs) (length ys) w) ≡ startIn cs ys w
+by-parts : (cs : List ℕ) (ys : List Task) (w : Admitted) → parts cs ys (withCells (length cs) (length ys) w) ≡ filled cs ys (withCells (length cs) (length ys) w)
 unfolding imageIn idleRow
 by-parts cs ys (admitted.Refused c) = refl
 by-parts cs ys (admitted.Accepted shape c) = at (eqb (length cs) (length ys + 1)) refl
   where
-    at : (b : Bool) → eqb (length cs) (length ys + 1) ≡ b → parts cs ys (withCells (length cs) (length ys) (admitted.Accepted shape c)) ≡ startIn cs ys (admitted.Accepted shape c)
+    at : (b : Bool) → eqb (length cs) (length ys + 1) ≡ b → parts cs ys (withCells (length cs) (length ys) (admitted.Accepted shape c)) ≡ filled cs ys (withCells (length cs) (length ys) (admitted.Accepted shape c))
     at false e = rw e refl
     at true e =
         rw (e, eqb-true (length cs) (length ys + 1) e, add-one, drop-length ys, append-nil (idleRow (length ys))) refl

@@ -26,7 +26,7 @@ use Rattle.stepping.specs.declared.call.BeginAnswer.the-variants as begi
 use Rattle.stepping.specs.declared.call.Begin.{Begin}
 use Rattle.records.specs.Record.{idleTask, readRecord}
 use Rattle.stepping.specs.Step.{planOf, touched, foundOf, cellInForm, usedInRange, nextOf, answerOf}
-use Rattle.stepping.specs.Call.{withRow, admitOf, Started, refuseStart, startIn, startOf, refuseBegin, beginFrom, beginIn, beginTask, Stepped, refuseStep, touch, stepFrom, stepIn, stepTask, taskAt, beginOf, stepOf}
+use Rattle.stepping.specs.Call.{withRow, admitOf, Started, refuseStart, withCells, filled, startOf, admitStartOf, refuseBegin, beginFrom, beginIn, beginTask, Stepped, refuseStep, touch, stepFrom, stepIn, stepTask, taskAt, beginOf, stepOf}
 use Rattle.stepping.proofs.Lists.{set-held}
 
 -- What holds of both sides of a choice holds of the choice.
@@ -43,13 +43,13 @@ module _ (cells : List ℕ) (row : List Task) where
   start-refused : (c : Refusal) → StartKept (refuseStart cells row c)
   start-refused c = record { same = λ reason e. let p : c ≡ reason = cc in ap (refuseStart cells row) p }
 
-  start-kept : (x : Admitted) → StartKept (startIn cells row x)
+  start-kept : (x : Admitted) → StartKept (filled cells row (withCells (length cells) (length row) x))
   start-kept (admitted.Refused c) = start-refused c
   start-kept (admitted.Accepted shape c) =
-      choice StartKept (eqb (length cells) (length row + 1)) _ _ (record { same = λ reason e. absurd (let z : _≡_ {A = ℕ} 0 1 = cc in omega arith) }) (start-refused cause.Cells)
+      choice (λ found. StartKept (filled cells row found)) (eqb (length cells) (length row + 1)) _ _ (record { same = λ reason e. absurd (let z : _≡_ {A = ℕ} 0 1 = cc in omega arith) }) (start-refused cause.Cells)
 
   pub refused-start : (file : List ℕ) (reason : Refusal) → startOf file cells row .answer ≡ start.Refused reason → startOf file cells row ≡ refuseStart cells row reason
-  unfolding startOf
+  unfolding startOf admitStartOf
   refused-start file reason e = start-kept (withRow (length row) (checkOf file)) .same reason e
 
 -- ---- Begin

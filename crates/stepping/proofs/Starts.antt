@@ -22,7 +22,7 @@ use Rattle.machine.specs.Run as run
 use Rattle.machine.specs.Run.{start}
 use Rattle.records.specs.declared.record.Task.{Task}
 use Rattle.stepping.specs.declared.call.StartAnswer.the-variants as answer
-use Rattle.stepping.specs.Call.{withRow, idleRow, startIn, startOf}
+use Rattle.stepping.specs.Call.{withRow, idleRow, startOf, filled, withCells, admitStartOf}
 use Rattle.stepping.specs.Encoding.{tabulate, encodeCells, encodeTask, encodeRow}
 use Rattle.stepping.specs.Runs.{startStore, encodeConfig}
 use Rattle.stepping.proofs.Admission.{ceiling-ranges}
@@ -47,13 +47,13 @@ pub record Starts (file cells : List ℕ) (row : List Task) : Type 0 where
   pub store : startStore file cells row ≡ encodeConfig (length row) (start (shape .start))
 
 pub start-simulates : (file cells : List ℕ) (row : List Task) → startOf file cells row .answer ≡ answer.Started → Starts file cells row
-unfolding startOf
+unfolding startOf admitStartOf
 start-simulates file cells row a = checked (checkOf file) refl a
   where
     n : ℕ
     n = length row
 
-    counted : (shape : Shape) (c : ℕ) → checkOf file ≡ table.Accepted shape → ceilingOf n ≡ ceiling.Steps c → (b : Bool) → eqb (length cells) (n + 1) ≡ b → startIn cells row (withRow n (checkOf file)) .answer ≡ answer.Started → Starts file cells row
+    counted : (shape : Shape) (c : ℕ) → checkOf file ≡ table.Accepted shape → ceilingOf n ≡ ceiling.Steps c → (b : Bool) → eqb (length cells) (n + 1) ≡ b → filled cells row (withCells (length cells) n (withRow n (checkOf file))) .answer ≡ answer.Started → Starts file cells row
     counted shape c e d true l s = record {
       shape = shape;
       accepted = e;
@@ -64,10 +64,10 @@ start-simulates file cells row a = checked (checkOf file) refl a
     }
     counted shape c e d false l s = absurd (let f = rw (e, d, l) at s in let z : _≡_ {A = ℕ} 0 1 = cc f in omega arith)
 
-    limited : (shape : Shape) → checkOf file ≡ table.Accepted shape → (d : Ceiling) → ceilingOf n ≡ d → startIn cells row (withRow n (checkOf file)) .answer ≡ answer.Started → Starts file cells row
+    limited : (shape : Shape) → checkOf file ≡ table.Accepted shape → (d : Ceiling) → ceilingOf n ≡ d → filled cells row (withCells (length cells) n (withRow n (checkOf file))) .answer ≡ answer.Started → Starts file cells row
     limited shape e (ceiling.Steps c) d s = counted shape c e d (eqb (length cells) (n + 1)) refl s
     limited shape e (ceiling.Refused r) d s = absurd (let f = rw (e, d) at s in let z : _≡_ {A = ℕ} 0 1 = cc f in omega arith)
 
-    checked : (k : Checked) → checkOf file ≡ k → startIn cells row (withRow n (checkOf file)) .answer ≡ answer.Started → Starts file cells row
+    checked : (k : Checked) → checkOf file ≡ k → filled cells row (withCells (length cells) n (withRow n (checkOf file))) .answer ≡ answer.Started → Starts file cells row
     checked (table.Accepted shape) e s = limited shape e (ceilingOf n) refl s
     checked (table.Refused r) e s = absurd (let f = rw e at s in let z : _≡_ {A = ℕ} 0 1 = cc f in omega arith)

@@ -83,17 +83,7 @@ pub record Started : Type 0 where
 abbrev pub refuseStart : List ℕ → List Task → Refusal → Started
 refuseStart cells row c = record { cells = cells; row = row; answer = start.Refused c }
 
-abbrev pub startIn : List ℕ → List Task → Admitted → Started
-startIn cells row (admitted.Refused c) = refuseStart cells row c
-startIn cells row (admitted.Accepted shape c) =
-    cond (eqb (length cells) (length row + 1))
-    (record { cells = image (length row) (shape .start); row = idleRow (length row); answer = start.Started })
-    (refuseStart cells row cause.Cells)
-
-unfoldable pub startOf : List ℕ → List ℕ → List Task → Started
-startOf file cells row = startIn cells row (withRow (length row) (checkOf file))
-
--- The tests of start alone, for k cells and n records: whether it is granted and the start state, or the first cause.
+-- Its tests, for k cells and n records: whether it is granted and the start state, or the first cause.
 abbrev pub notGranted : Refusal → Start
 notGranted c = record { granted = false; state = 0; answer = start.Refused c }
 
@@ -104,6 +94,17 @@ withCells k n (admitted.Accepted shape c) =
 
 unfoldable pub admitStartOf : List ℕ → (k n : ℕ) → Start
 admitStartOf file k n = withCells k n (withRow n (checkOf file))
+
+-- A start that is granted fills the cells with the image of the start state, and every record with an idle task.
+abbrev pub filled : List ℕ → List Task → Start → Started
+filled cells row found = record {
+  cells = cond (found .granted) (image (length row) (found .state)) cells;
+  row = cond (found .granted) (idleRow (length row)) row;
+  answer = found .answer;
+}
+
+unfoldable pub startOf : List ℕ → List ℕ → List Task → Started
+startOf file cells row = filled cells row (admitStartOf file (length cells) (length row))
 
 -- ---- Begin: 1, 2, 3, 5, 7, 8, then 4 on the operation's entries, then 11, 9
 

@@ -19,7 +19,7 @@ use Rattle.table.specs.Check.{checkOf}
 use Rattle.table.specs.Entries.{entryOf, entryInRange, operationInRange, entriesInRange}
 use Rattle.table.specs.File.{endsInMark, shapeOf}
 use Rattle.table.specs.Layout.{fileFits, dimensionsFit, lengthFits, layoutOf}
-use Rattle.stepping.specs.Call.{startOf, startNumber, idleRow}
+use Rattle.stepping.specs.Call.{admitStartOf, startOf, startNumber, idleRow}
 
 abbrev case : ℕ → ℕ → Case
 case given said = record { given = given; said = said }
@@ -59,7 +59,7 @@ pub cases : List Case
 cases = file.cases ++ callCases
 
 calls-hold : map (λ c. c .given) callCases ≡ map (λ c. c .said) callCases
-unfolding callCases image headInForm inForm marksInForm headFieldsInForm headWord pack unpack total ceilingOf startOf idleRow flag checkOf layoutOf fileFits dimensionsFit lengthFits entriesInRange operationInRange entryInRange entryOf endsInMark shapeOf allBelow
+unfolding callCases image headInForm inForm marksInForm headFieldsInForm headWord pack unpack total ceilingOf startOf admitStartOf idleRow flag checkOf layoutOf fileFits dimensionsFit lengthFits entriesInRange operationInRange entryInRange entryOf endsInMark shapeOf allBelow
 calls-hold = refl
 
 pub cases-hold : map (λ c. c .given) cases ≡ map (λ c. c .said) cases

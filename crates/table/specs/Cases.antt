@@ -1,5 +1,5 @@
--- Document 01, "Cases": the marked cases about the object file, as one table. The other marked cases need later
--- definitions: 8 and 9 records stand with the row; the image, the two heads and the ceiling with the cells.
+-- Document 01, "Cases": the marked cases about the object file. The table of all marked cases, which needs later definitions,
+-- is that of the crate stepping.
 use Prim.Native.Nat.{ℕ, _*_, _/_, _%_}
 use mathlib.Core.Path.{_≡_, refl}
 use mathlib.Core.Bool.{cond}
