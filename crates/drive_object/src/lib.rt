@@ -1,0 +1,129 @@
+// The calls for kernels in C and Rust: each answer is one word.
+use cells::ceiling;
+use cells::ceiling::Ceiling;
+use records::record::Task;
+use refusal::Refusal;
+use stepping::access::Answer;
+use stepping::call::BeginAnswer;
+use stepping::call::StartAnswer;
+use table::Checked;
+ghost use mathlib.Core.Path.{_≡_};
+ghost use Prim.Native.Nat.{_+_, _*_};
+ghost use Rattle.cells.specs.Ceiling.{ceilingOf};
+ghost use Rattle.table.specs.Check.{checkOf};
+ghost use Rattle.stepping.specs.Call.{startOf, beginOf, stepOf};
+ghost use Rattle.drive_object.specs.Word.{wordOf, refusedWord, checkWord, startWord, beginWord, stepWord, ceilingWord};
+
+// The word of a refusal's number, of whether the operation has ended, and of two numbers.
+fn word(cause: u8, ended: u8, low: u16, high: u32) -> u64
+    ensures { λ r. ⌜ r ≡ wordOf cause ended low high ⌝ }
+{
+    cause as u64 + 0x100 * ended as u64 + 0x1_0000 * low as u64 + 0x1_0000_0000 * high as u64
+}
+
+// The word of a refusal.
+fn refused_word(cause: Refusal) -> u64
+    ensures { λ r. ⌜ r ≡ refusedWord cause ⌝ }
+{
+    word(refusal::number(cause), 0, 0, 0)
+}
+
+// Two numbers in the halves of one.
+fn halves(low: u16, high: u16) -> u32
+    ensures { λ r. ⌜ r ≡ low + 65536 * high ⌝ }
+{
+    low as u32 + 0x1_0000 * high as u32
+}
+
+// The word of what a check of a table answers.
+fn check_word(answer: Checked) -> u64
+    ensures { λ r. ⌜ r ≡ checkWord answer ⌝ }
+{
+    match answer {
+        Checked::Accepted(shape) => {
+            word(0, 0, shape.states, halves(shape.operations, shape.start))
+        }
+        Checked::Refused(cause) => refused_word(cause),
+    }
+}
+
+// The word of what a start answers.
+fn start_word(answer: StartAnswer) -> u64
+    ensures { λ r. ⌜ r ≡ startWord answer ⌝ }
+{
+    match answer {
+        StartAnswer::Started => word(0, 0, 0, 0),
+        StartAnswer::Refused(cause) => refused_word(cause),
+    }
+}
+
+// The word of what a begin answers.
+fn begin_word(answer: BeginAnswer) -> u64
+    ensures { λ r. ⌜ r ≡ beginWord answer ⌝ }
+{
+    match answer {
+        BeginAnswer::Begun => word(0, 0, 0, 0),
+        BeginAnswer::Refused(cause) => refused_word(cause),
+    }
+}
+
+// The word of what a step answers.
+fn step_word(answer: Answer) -> u64
+    ensures { λ r. ⌜ r ≡ stepWord answer ⌝ }
+{
+    match answer {
+        Answer::Running => word(0, 0, 0, 0),
+        Answer::Ended { response, steps } => word(0, 1, response, steps),
+        Answer::Refused(cause) => refused_word(cause),
+    }
+}
+
+// The word of a ceiling.
+fn ceiling_word(answer: Ceiling) -> u64
+    ensures { λ r. ⌜ r ≡ ceilingWord answer ⌝ }
+{
+    match answer {
+        Ceiling::Steps(steps) => word(0, 0, 0, steps),
+        Ceiling::Refused(cause) => refused_word(cause),
+    }
+}
+
+// Checks a table.
+#[no_mangle]
+pub extern "C" fn drive_check(file: &[u8]) -> u64
+    ensures { λ r. ⌜ r ≡ checkWord (checkOf (now (file .entry))) ⌝ }
+{
+    check_word(table::check(file))
+}
+
+// The ceiling of own steps of an operation, by the number of tasks.
+#[no_mangle]
+pub extern "C" fn drive_ceiling(tasks: usize) -> u64
+    ensures { λ r. ⌜ r ≡ ceilingWord (ceilingOf tasks) ⌝ }
+{
+    ceiling_word(ceiling::ceiling_for(tasks))
+}
+
+// Starts a run: fills the cells with the image of the start state, and every record with an idle task.
+#[no_mangle]
+pub extern "C" fn drive_start(file: &[u8], cells: &mut [u64], row: &mut [Task]) -> u64
+    ensures { λ r. ⌜ (now (cells .exit) ≡ startOf (now (file .entry)) (now (cells .entry)) (now (row .entry)) .cells) × (now (row .exit) ≡ startOf (now (file .entry)) (now (cells .entry)) (now (row .entry)) .row) × (r ≡ startWord (startOf (now (file .entry)) (now (cells .entry)) (now (row .entry)) .answer)) ⌝ }
+{
+    start_word(drive::start(file, cells, row))
+}
+
+// Begins an operation for a task.
+#[no_mangle]
+pub extern "C" fn drive_begin(file: &[u8], row: &mut [Task], task: usize, operation: usize) -> u64
+    ensures { λ r. ⌜ (now (row .exit) ≡ beginOf (now (file .entry)) (now (row .entry)) task operation .row) × (r ≡ beginWord (beginOf (now (file .entry)) (now (row .entry)) task operation .answer)) ⌝ }
+{
+    begin_word(drive::begin(file, row, task, operation))
+}
+
+// Makes one step for a task.
+#[no_mangle]
+pub extern "C" fn drive_step(file: &[u8], cells: &mut [u64], row: &mut [Task], task: usize) -> u64
+    ensures { λ r. ⌜ (now (cells .exit) ≡ stepOf (now (file .entry)) (now (cells .entry)) (now (row .entry)) task .cells) × (now (row .exit) ≡ stepOf (now (file .entry)) (now (cells .entry)) (now (row .entry)) task .row) × (r ≡ stepWord (stepOf (now (file .entry)) (now (cells .entry)) (now (row .entry)) task .answer)) ⌝ }
+{
+    step_word(drive::step(file, cells, row, task))
+}
