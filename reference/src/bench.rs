@@ -13,8 +13,8 @@ use crate::record::Record;
 use crate::refusal::Refusal;
 use crate::table::{Table, MOST_FILE_BYTES};
 
-pub struct Bench {
-    table: Table,
+pub struct Bench<'a> {
+    table: Table<'a>,
     run: Option<Run>,
 }
 
@@ -59,8 +59,8 @@ fn refusal_line(refusal: Refusal) -> String {
     format!("x {}\n", refusal.number())
 }
 
-impl Bench {
-    pub fn new(file: &[u8]) -> Result<Bench, Refusal> {
+impl<'a> Bench<'a> {
+    pub fn new(file: &'a [u8]) -> Result<Bench<'a>, Refusal> {
         let table = Table::check(file)?;
         Ok(Bench { table, run: None })
     }

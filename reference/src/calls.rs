@@ -123,11 +123,11 @@ mod tests {
     use super::*;
     use crate::table_file::TableFile;
 
-    fn flag() -> Table {
-        Table::check(&TableFile::flag().to_bytes()).unwrap()
+    fn flag() -> Table<'static> {
+        Table::check(TableFile::flag().kept()).unwrap()
     }
 
-    fn started(tasks: usize) -> (Table, Vec<u64>, Vec<Record>) {
+    fn started(tasks: usize) -> (Table<'static>, Vec<u64>, Vec<Record>) {
         let table = flag();
         let mut cells = vec![7; tasks + 1];
         let mut row = vec![Record::default(); tasks];
@@ -183,7 +183,7 @@ mod tests {
     fn begin_tests_all_entries_of_its_operation_and_no_others() {
         let mut file = TableFile::flag();
         file.entries[8] = 2;
-        let table = Table::read(&file.to_bytes()).unwrap();
+        let table = Table::read(file.kept()).unwrap();
         let mut row = [Record::default()];
         assert_eq!(begin(&table, &mut row, 0, 1), Err(Refusal::NextState));
         assert_eq!(begin(&table, &mut row, 0, 2), Ok(()));
@@ -212,7 +212,7 @@ mod tests {
     fn step_tests_the_entry_that_it_uses_after_the_cell() {
         let mut file = TableFile::flag();
         file.entries[0] = 2;
-        let table = Table::read(&file.to_bytes()).unwrap();
+        let table = Table::read(file.kept()).unwrap();
         let mut row = [Record::idle(0).with_phase(Phase::ReadOnly)];
         assert_eq!(step(&table, &mut [0x200, 0], &mut row, 0), Err(Refusal::Cell));
         assert_eq!(step(&table, &mut [0, 0], &mut row, 0), Err(Refusal::NextState));

@@ -22,7 +22,7 @@ pub fn explore_all() -> Result<String, String> {
     Ok(format!("explore: {}", parts.join("; ")))
 }
 
-fn system(table: &Table) -> System<'_> {
+fn system<'a>(table: &'a Table<'a>) -> System<'a> {
     System {
         table,
         advance: machine::advance,

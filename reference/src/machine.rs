@@ -305,8 +305,8 @@ mod tests {
     use super::*;
     use crate::table_file::TableFile;
 
-    fn flag() -> Table {
-        Table::check(&TableFile::flag().to_bytes()).unwrap()
+    fn flag() -> Table<'static> {
+        Table::check(TableFile::flag().kept()).unwrap()
     }
 
     fn planned(phase: Phase, record: Record) -> Access {

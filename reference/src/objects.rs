@@ -3,7 +3,7 @@
 use crate::table::Table;
 use crate::table_file::TableFile;
 
-pub fn explored_objects() -> Vec<(&'static str, Table)> {
+pub fn explored_objects() -> Vec<(&'static str, Table<'static>)> {
     let named = |(name, file): (&'static str, TableFile)| (name, checked(file));
     [
         ("flag", TableFile::flag()),
@@ -14,18 +14,18 @@ pub fn explored_objects() -> Vec<(&'static str, Table)> {
     .into()
 }
 
-fn checked(file: TableFile) -> Table {
-    Table::check(&file.to_bytes()).expect("the objects are valid")
+fn checked(file: TableFile) -> Table<'static> {
+    Table::check(file.kept()).expect("the objects are valid")
 }
 
 /// An object that stands still: its one operation leads from state 1 to 0 and so counts as changing, but state 1 is out
 /// of reach, and every response is 0.
-pub fn still() -> Table {
+pub fn still() -> Table<'static> {
     checked(TableFile::plain(2, 1, 0, &[(0, 0), (0, 0)]))
 }
 
 /// The counter, and its operation that counts up and so always changes the state.
-pub fn counter_up() -> (Table, usize) {
+pub fn counter_up() -> (Table<'static>, usize) {
     (checked(counter()), 1)
 }
 
@@ -46,8 +46,8 @@ fn latch() -> TableFile {
 
 /// All objects, each with one changing operation.
 #[cfg(test)]
-pub fn changing_objects() -> Vec<(&'static str, Table, usize)> {
-    let with_operation = |(name, table): (&'static str, Table)| match name {
+pub fn changing_objects() -> Vec<(&'static str, Table<'static>, usize)> {
+    let with_operation = |(name, table)| match name {
         "latch" => (name, table, 0),
         _ => (name, table, 1),
     };

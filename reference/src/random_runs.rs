@@ -197,7 +197,7 @@ mod tests {
         }
     }
 
-    fn history_of_one(response: u16) -> (History, Book, Table) {
+    fn history_of_one(response: u16) -> (History, Book, Table<'static>) {
         let (_, table) = explored_objects().remove(0);
         let mut history = History::new(1);
         let answer = Answer::Ended { response, steps: 1 };

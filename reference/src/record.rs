@@ -91,7 +91,7 @@ mod tests {
     use crate::table_file::TableFile;
 
     fn in_form(record: Record, tasks: usize) -> bool {
-        let table = Table::check(&TableFile::flag().to_bytes()).unwrap();
+        let table = Table::check(TableFile::flag().kept()).unwrap();
         record.is_in_form(&table, tasks)
     }
 

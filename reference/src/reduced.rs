@@ -15,14 +15,14 @@ use crate::table::Table;
 /// The one operation that every task makes.
 #[derive(Clone, Copy)]
 pub struct Chase<'a> {
-    pub table: &'a Table,
+    pub table: &'a Table<'a>,
     pub operation: usize,
     pub victim: usize,
 }
 
 impl<'a> Chase<'a> {
     /// A chase over the object that stands still. Task 0 is as good a victim as any: the start looks the same to all.
-    pub fn of_still(table: &'a Table) -> Chase<'a> {
+    pub fn of_still(table: &'a Table<'a>) -> Chase<'a> {
         Chase {
             table,
             operation: 0,

@@ -154,15 +154,15 @@ impl Style {
 
 /// Writes a script line by line and lets a bench follow, to know who has an operation pending.
 struct Writer<'a> {
-    bench: Bench,
+    bench: Bench<'a>,
     random: &'a mut Random,
     style: Style,
     input: Vec<u8>,
     lines: usize,
 }
 
-impl Writer<'_> {
-    fn new(bench: Bench, random: &mut Random) -> Writer<'_> {
+impl<'a> Writer<'a> {
+    fn new(bench: Bench<'a>, random: &'a mut Random) -> Writer<'a> {
         let style = Style::choose(random);
         Writer {
             bench,

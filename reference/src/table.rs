@@ -16,14 +16,13 @@ pub struct Entry {
     pub response: u16,
 }
 
-/// A table that passes refusals 1 to 3. Its next states may be out of range: who uses an entry tests it.
-#[derive(Clone, Debug, PartialEq, Eq)]
-pub struct Table {
+/// A table that passes refusals 1 to 3, read in place. Its next states may be out of range: who uses an entry tests it.
+#[derive(Clone, Copy, Debug, PartialEq, Eq)]
+pub struct Table<'a> {
     pub states: usize,
     pub operations: usize,
     pub start: usize,
-    entries: Vec<Entry>,
-    changing: Vec<bool>,
+    entries: &'a [u8],
 }
 
 /// The fields of the last 16 bytes, before the mark.
@@ -34,36 +33,35 @@ struct Trailer {
     start: usize,
 }
 
-impl Table {
-    /// Tests 1 to 3 and takes the entries.
-    pub fn read(file: &[u8]) -> Result<Table, Refusal> {
+impl<'a> Table<'a> {
+    /// Tests 1 to 3 and finds the entries.
+    pub fn read(file: &'a [u8]) -> Result<Table<'a>, Refusal> {
         let trailer = read_trailer(file)?;
         test_dimensions(&trailer)?;
         test_length(&trailer, file.len())?;
         let first = trailer.offset as usize;
         let last = file.len() - TRAILER_BYTES;
-        let entries = read_entries(&file[first..last]);
-        let changing = (0..trailer.operations)
-            .map(|operation| changes_some_state(&entries, trailer.operations, operation))
-            .collect();
         Ok(Table {
             states: trailer.states,
             operations: trailer.operations,
             start: trailer.start,
-            entries,
-            changing,
+            entries: &file[first..last],
         })
     }
 
     /// Tests 1 to 4, the last on all entries.
-    pub fn check(file: &[u8]) -> Result<Table, Refusal> {
+    pub fn check(file: &'a [u8]) -> Result<Table<'a>, Refusal> {
         let table = Table::read(file)?;
         table.test_all_entries()?;
         Ok(table)
     }
 
     pub fn entry(&self, state: usize, operation: usize) -> Entry {
-        self.entries[state * self.operations + operation]
+        let place = ENTRY_BYTES * (state * self.operations + operation);
+        Entry {
+            next: u16::from(self.entries[place]),
+            response: u16::from(self.entries[place + 1]),
+        }
     }
 
     pub fn test_entry(&self, state: usize, operation: usize) -> Result<(), Refusal> {
@@ -82,8 +80,9 @@ impl Table {
         (0..self.operations).try_for_each(|operation| self.test_operation_entries(operation))
     }
 
+    /// An operation is changing if in some state of the table its next state is another one.
     pub fn is_changing(&self, operation: usize) -> bool {
-        self.changing[operation]
+        (0..self.states).any(|state| usize::from(self.entry(state, operation).next) != state)
     }
 }
 
@@ -123,22 +122,6 @@ fn test_length(trailer: &Trailer, length: usize) -> Result<(), Refusal> {
     } else {
         Err(Refusal::Length)
     }
-}
-
-fn read_entries(bytes: &[u8]) -> Vec<Entry> {
-    let entry = |pair: &[u8]| Entry {
-        next: u16::from(pair[0]),
-        response: u16::from(pair[1]),
-    };
-    bytes.chunks_exact(ENTRY_BYTES).map(entry).collect()
-}
-
-/// An operation is changing if in some state of the table its next state is another one.
-fn changes_some_state(entries: &[Entry], operations: usize, operation: usize) -> bool {
-    let of_state = entries.chunks_exact(operations).enumerate();
-    of_state
-        .map(|(state, row)| (state, row[operation]))
-        .any(|(state, entry)| usize::from(entry.next) != state)
 }
 
 /// What the program `check_table` prints for a file.
@@ -183,7 +166,7 @@ mod tests {
 
     #[test]
     fn flag_operation_2_is_changing_and_0_is_reading() {
-        let table = Table::check(&TableFile::flag().to_bytes()).unwrap();
+        let table = Table::check(TableFile::flag().kept()).unwrap();
         assert!(table.is_changing(2));
         assert!(!table.is_changing(0));
     }
@@ -285,7 +268,7 @@ mod tests {
 
     #[test]
     fn entries_stand_by_state_then_by_operation() {
-        let table = Table::check(&TableFile::flag().to_bytes()).unwrap();
+        let table = Table::check(TableFile::flag().kept()).unwrap();
         assert_eq!(table.entry(0, 1), Entry { next: 1, response: 0 });
         assert_eq!(table.entry(1, 2), Entry { next: 0, response: 1 });
     }
@@ -294,7 +277,7 @@ mod tests {
     fn entries_are_tested_one_by_one_or_by_operation() {
         let mut file = TableFile::flag();
         file.entries[8] = 9;
-        let table = Table::read(&file.to_bytes()).unwrap();
+        let table = Table::read(file.kept()).unwrap();
         assert_eq!(table.test_entry(1, 1), Err(Refusal::NextState));
         assert_eq!(table.test_entry(0, 1), Ok(()));
         assert_eq!(table.test_operation_entries(1), Err(Refusal::NextState));

@@ -26,6 +26,11 @@ impl TableFile {
         file
     }
 
+    /// The bytes, kept as long as the program runs: a table reads them in place.
+    pub fn kept(&self) -> &'static [u8] {
+        self.to_bytes().leak()
+    }
+
     /// A file without text, its entries given as (next state, response), by state and then by operation.
     pub fn plain(states: u16, operations: u16, start: u16, entries: &[(u8, u8)]) -> TableFile {
         TableFile {

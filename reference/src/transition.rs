@@ -13,7 +13,7 @@ use crate::table::Table;
 /// An object and the rules that its tasks follow.
 #[derive(Clone, Copy)]
 pub struct System<'a> {
-    pub table: &'a Table,
+    pub table: &'a Table<'a>,
     pub advance: Advance,
 }
 
