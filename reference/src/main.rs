@@ -1,49 +1,11 @@
-//! The second program: document 01 written again, apart from the proved library, to compare the two.
-
-mod bench;
-mod book;
-mod calls;
-mod ceiling;
-mod cells;
-mod compare_bench;
-mod compare_tables;
-mod configuration;
-mod estimate;
-mod exploration;
-mod explore;
-mod invariant;
-mod lines;
-mod long_operations;
-mod longest;
-mod longest_path;
-mod machine;
-mod objects;
-mod opening;
-mod packed_point;
-mod phase;
-mod potential;
-mod process;
-mod random;
-mod random_runs;
-mod record;
-mod reduced;
-mod reduced_graph;
-mod refusal;
-mod replay;
-mod script_cases;
-mod search;
-mod table;
-mod table_cases;
-mod table_file;
-mod transition;
-#[cfg(test)]
-mod wrong_rules;
+//! The second program: the commands over the library of the same name.
 
 use std::io::Read;
 use std::path::Path;
 use std::process::ExitCode;
 
-use compare_bench::{compare_bench, write_listing, RANDOM_SCRIPTS};
+use reference::compare_bench::{compare_bench, write_listing, RANDOM_SCRIPTS};
+use reference::{bench, ceiling, compare_tables, exploration, kernel, long_operations, table};
 
 const USAGE: &str = "usage: reference check-table < FILE
        reference compare-tables PATH_TO_check_table
@@ -52,7 +14,8 @@ const USAGE: &str = "usage: reference check-table < FILE
        reference longest [TASKS]
        reference bench < LINES
        reference compare-bench PATH_TO_bench [COUNT]
-       reference listing FOLDER";
+       reference listing FOLDER
+       reference kernel";
 
 fn main() -> ExitCode {
     let arguments: Vec<String> = std::env::args().skip(1).collect();
@@ -72,6 +35,7 @@ fn main() -> ExitCode {
             Err(_) => Err(USAGE.to_string()),
         },
         ["listing", folder] => write_listing(folder),
+        ["kernel"] => kernel::listing().map(|listing| print!("{listing}")),
         _ => Err(USAGE.to_string()),
     };
     match result {

@@ -1,0 +1,42 @@
+//! Document 01 written again, apart from the proved library, to compare the two.
+
+pub mod bench;
+mod book;
+pub mod calls;
+pub mod ceiling;
+mod cells;
+pub mod compare_bench;
+pub mod compare_tables;
+mod configuration;
+mod estimate;
+pub mod exploration;
+mod explore;
+pub mod file_calls;
+mod invariant;
+pub mod kernel;
+mod lines;
+pub mod long_operations;
+mod longest;
+mod longest_path;
+pub mod machine;
+mod objects;
+mod opening;
+mod packed_point;
+mod phase;
+mod potential;
+mod process;
+mod random;
+mod random_runs;
+pub mod record;
+mod reduced;
+mod reduced_graph;
+pub mod refusal;
+mod replay;
+mod script_cases;
+mod search;
+pub mod table;
+mod table_cases;
+pub mod table_file;
+mod transition;
+#[cfg(test)]
+mod wrong_rules;
