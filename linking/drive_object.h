@@ -1,0 +1,131 @@
+/*
+ * The drive object for kernels in C: a table of states and operations that up to eight tasks share through 64-bit cells.
+ * Link with libdrive_object.a. The contract is document 01, "The drive object, its cells and its steps"; docs/LINKING.md is
+ * the page about linking.
+ *
+ * What the caller owes, at every call:
+ *  - Lent memory is valid for the whole call, to its given length: `file` to be read, `cells` and `row` to be read and
+ *    written. Cells and row are aligned to 8 bytes and hold values. With length 0 the pointer may have any value.
+ *  - File, cells and row do not overlap, and nobody else writes them during the call.
+ *  - Begin and step are called with switching closed: one call ends before the next one starts.
+ * Within a run (an accepted start and the begins and steps after it) nothing but the calls writes cells, row or table, and
+ * every call is lent the same ones. Nothing is asked of task, operation or any length: a call that can't be served is
+ * refused. A call keeps no pointer, allocates nothing and calls nothing.
+ *
+ * Every call answers with one word, which the drive_answer functions below read. Byte 0, the lowest, is 0 if the call is
+ * accepted, else the number of the first cause that holds; then every other byte is 0 and everything lent is left as it was.
+ */
+#ifndef DRIVE_OBJECT_H
+#define DRIVE_OBJECT_H
+
+#include <stdbool.h>
+#include <stddef.h>
+#include <stdint.h>
+
+#ifdef __cplusplus
+extern "C" {
+#endif
+
+/* The most tasks of a run. It has one cell more than tasks: cell 0 is the head, cell i + 1 the announcement of task i. */
+#define DRIVE_MOST_TASKS 8
+
+/* Why a call is not served. */
+enum drive_refusal {
+    DRIVE_FILE = 1,        /* file under 16 or over 20,496 bytes, or mark wrong */
+    DRIVE_DIMENSIONS = 2,  /* states or operations out of range, or start state not below states */
+    DRIVE_LENGTH = 3,      /* offset over 4,096, or text, entries and trailer do not make up the length */
+    DRIVE_NEXT_STATE = 4,  /* next state not below states, in the entries tested */
+    DRIVE_ROW = 5,         /* row of 0 or over 8 records */
+    DRIVE_CELLS = 6,       /* cells not one more than records */
+    DRIVE_TASK = 7,        /* task number not below the number of records */
+    DRIVE_OPERATION = 8,   /* operation not below operations */
+    DRIVE_PENDING = 9,     /* begin with an operation pending */
+    DRIVE_IDLE = 10,       /* step with none pending */
+    DRIVE_RECORD = 11,     /* record out of the forms in docs/RECORDS.md */
+    DRIVE_CELL = 12        /* touched cell out of form */
+};
+
+/* The private record of a task, whose number is its place in the row. Start fills it; only the calls write it. The forms
+ * stand in docs/RECORDS.md. */
+typedef struct drive_task {
+    uint64_t head;         /* a saved head */
+    uint64_t announcement; /* a saved announcement */
+    uint32_t payload;      /* an operation that is to be applied, or the own response */
+    uint32_t steps;        /* the own steps since begin */
+    uint16_t operation;    /* the own operation */
+    uint16_t priority;     /* the task that is helped first */
+    uint32_t phase;        /* what the next step does; 0 is idle */
+} drive_task;
+
+#ifdef __cplusplus
+static_assert(sizeof(drive_task) == 32, "a record has 32 bytes");
+#else
+_Static_assert(sizeof(drive_task) == 32, "a record has 32 bytes");
+#endif
+
+/*
+ * Checks a table. Tests 1, 2, 3, then 4 on all entries.
+ * Writes nothing. Answers states, operations and start state. Its cost grows with states times operations.
+ */
+uint64_t drive_check(const uint8_t *file, size_t file_length);
+
+/*
+ * Starts a run. Tests 1, 2, 3, 4 on all entries, 5, 6.
+ * Writes every cell, with the image of the start state, and every record, with an idle task. They may hold anything before.
+ * Its cost grows with states times operations.
+ */
+uint64_t drive_start(const uint8_t *file, size_t file_length, uint64_t *cells, size_t cell_count, drive_task *row,
+                     size_t task_count);
+
+/*
+ * Begins an operation for a task. Tests 1, 2, 3, 5, 7, 8, then 4 on the operation's entries, then 11, 9.
+ * Writes the task's record, and leaves the row's other records and every cell. Its cost grows with the number of states.
+ */
+uint64_t drive_begin(const uint8_t *file, size_t file_length, drive_task *row, size_t task_count, size_t task,
+                     size_t operation);
+
+/*
+ * Makes one step for a task: one read, write or compare-and-swap on one cell. Tests 1, 2, 3, 5, 6, 7, 11, 10, 12, then 4 on
+ * the one entry that it uses, if it uses one.
+ * Writes the task's record and at most the one touched cell, and leaves every other record and cell. Answers running, or
+ * ended with the response and the number of own steps since begin, this one counted, which is at most the ceiling. Its cost
+ * is bounded for all tables and numbers of tasks.
+ */
+uint64_t drive_step(const uint8_t *file, size_t file_length, uint64_t *cells, size_t cell_count, drive_task *row,
+                    size_t task_count, size_t task);
+
+/*
+ * The ceiling of own steps of an operation, whatever the other tasks do. Tests 5 on the number of tasks.
+ * Writes nothing. Answers the ceiling.
+ */
+uint64_t drive_ceiling(size_t task_count);
+
+/* Of any answer: 0 if the call was accepted, else the cause, one of enum drive_refusal. */
+static inline unsigned drive_answer_refusal(uint64_t answer) { return (unsigned)(answer & 0xff); }
+
+/* Of a step: whether the operation has ended. If not, and the step was accepted, it is running. */
+static inline bool drive_answer_ended(uint64_t answer) { return (answer >> 8 & 0xff) == 1; }
+
+/* Of a step that ended an operation: the response. */
+static inline uint16_t drive_answer_response(uint64_t answer) { return (uint16_t)(answer >> 16); }
+
+/* Of a step that ended an operation: the own steps since begin. */
+static inline uint32_t drive_answer_steps(uint64_t answer) { return (uint32_t)(answer >> 32); }
+
+/* Of an accepted check: the number of states. */
+static inline uint16_t drive_answer_states(uint64_t answer) { return (uint16_t)(answer >> 16); }
+
+/* Of an accepted check: the number of operations. */
+static inline uint16_t drive_answer_operations(uint64_t answer) { return (uint16_t)(answer >> 32); }
+
+/* Of an accepted check: the start state. */
+static inline uint16_t drive_answer_start_state(uint64_t answer) { return (uint16_t)(answer >> 48); }
+
+/* Of an accepted ceiling: the number of own steps. */
+static inline uint32_t drive_answer_ceiling(uint64_t answer) { return (uint32_t)(answer >> 32); }
+
+#ifdef __cplusplus
+}
+#endif
+
+#endif

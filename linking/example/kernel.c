@@ -1,0 +1,159 @@
+/*
+ * A kernel in C over the drive object: three tasks take turns, one step to a turn, over the flag object. Task 1 is stopped
+ * for good inside an operation, with its mark in the head; a lock would be held there for ever. The others end all of
+ * their operations all the same.
+ *
+ * usage: kernel TABLE_FILE
+ */
+#include <inttypes.h>
+#include <stdio.h>
+#include <stdlib.h>
+
+#include "../drive_object.h"
+
+enum { TASKS = 3, MOST_OPERATIONS = 4, LONGEST_FILE = 20496 };
+
+/* The flag object's operations: the response is the old state. */
+enum { READ, SET, CLEAR };
+
+/* The task that is stopped in its last operation, as soon as it has its mark in the head. */
+enum { STOPPED = 1 };
+
+/* The operations of each task, in order. Only the task that is stopped sets the flag. */
+static const struct {
+    size_t count;
+    size_t operations[MOST_OPERATIONS];
+} programs[TASKS] = {
+    {4, {CLEAR, READ, CLEAR, CLEAR}},
+    {2, {SET, SET}},
+    {4, {READ, CLEAR, READ, CLEAR}},
+};
+
+/* What the library is lent, and what the kernel knows of its tasks. */
+struct kernel {
+    uint8_t file[LONGEST_FILE + 1];
+    size_t file_length;
+    uint64_t cells[TASKS + 1];
+    drive_task row[TASKS];
+    uint32_t ceiling;
+    size_t ended[TASKS];
+    uint32_t own_steps[TASKS];
+    bool pending[TASKS];
+    bool stopped;
+    unsigned raised;
+    unsigned lowered;
+};
+
+static void expect(bool fact, const char *what) {
+    if (!fact) {
+        fprintf(stderr, "kernel: %s\n", what);
+        exit(EXIT_FAILURE);
+    }
+}
+
+static void expect_accepted(uint64_t answer, const char *call) {
+    unsigned refusal = drive_answer_refusal(answer);
+    if (refusal != 0) {
+        fprintf(stderr, "kernel: %s is refused with %u\n", call, refusal);
+        exit(EXIT_FAILURE);
+    }
+}
+
+static void read_file(struct kernel *kernel, const char *path) {
+    FILE *file = fopen(path, "rb");
+    expect(file != NULL, "the table can't be opened");
+    kernel->file_length = fread(kernel->file, 1, sizeof kernel->file, file);
+    fclose(file);
+}
+
+static void start(struct kernel *kernel) {
+    uint64_t checked = drive_check(kernel->file, kernel->file_length);
+    expect_accepted(checked, "check");
+    uint64_t ceiling = drive_ceiling(TASKS);
+    expect_accepted(ceiling, "ceiling");
+    kernel->ceiling = drive_answer_ceiling(ceiling);
+    expect_accepted(
+        drive_start(kernel->file, kernel->file_length, kernel->cells, TASKS + 1, kernel->row, TASKS), "start");
+    printf("%d tasks, %u states, %u operations, ceiling %" PRIu32 "\n", TASKS, (unsigned)drive_answer_states(checked),
+           (unsigned)drive_answer_operations(checked), kernel->ceiling);
+}
+
+/* The flag is raised by a set that answers 0 and lowered by a clear that answers 1. */
+static void note_end(struct kernel *kernel, size_t task, size_t operation, uint64_t answer) {
+    unsigned response = drive_answer_response(answer);
+    uint32_t steps = drive_answer_steps(answer);
+    expect(steps == kernel->own_steps[task], "the answered count is not the number of steps");
+    expect(steps <= kernel->ceiling, "an operation passes the ceiling");
+    kernel->pending[task] = false;
+    kernel->ended[task] += 1;
+    kernel->raised += operation == SET && response == 0;
+    kernel->lowered += operation == CLEAR && response == 1;
+    printf("task %zu operation %zu answers %u, own steps %" PRIu32 "\n", task, operation, response, steps);
+}
+
+static void note_stop(struct kernel *kernel, size_t task, size_t operation) {
+    expect(kernel->pending[task], "an idle task has its mark in the head");
+    kernel->stopped = true;
+    printf("task %zu operation %zu stopped, own steps %" PRIu32 ", head %016" PRIx64 "\n", task, operation,
+           kernel->own_steps[task], kernel->cells[0]);
+}
+
+/* Begins the task's next operation if it is idle, and makes one step. A real kernel closes switching around each call. */
+static void turn_of(struct kernel *kernel, size_t task) {
+    size_t operation = programs[task].operations[kernel->ended[task]];
+    if (!kernel->pending[task]) {
+        expect_accepted(drive_begin(kernel->file, kernel->file_length, kernel->row, TASKS, task, operation), "begin");
+        kernel->pending[task] = true;
+        kernel->own_steps[task] = 0;
+    }
+    uint64_t answer =
+        drive_step(kernel->file, kernel->file_length, kernel->cells, TASKS + 1, kernel->row, TASKS, task);
+    expect_accepted(answer, "step");
+    kernel->own_steps[task] += 1;
+    expect(kernel->own_steps[task] <= kernel->ceiling, "an operation passes the ceiling");
+    if (drive_answer_ended(answer)) {
+        note_end(kernel, task, operation, answer);
+    }
+    bool in_last = kernel->ended[task] + 1 == programs[task].count;
+    bool marked = kernel->cells[0] >> task & 1;
+    if (task == STOPPED && in_last && marked) {
+        note_stop(kernel, task, operation);
+    }
+}
+
+/* A turn of every task that is neither stopped nor done; no, if there is none. */
+static bool turn(struct kernel *kernel) {
+    bool any = false;
+    for (size_t task = 0; task < TASKS; task++) {
+        bool stands_still = task == STOPPED && kernel->stopped;
+        if (!stands_still && kernel->ended[task] < programs[task].count) {
+            turn_of(kernel, task);
+            any = true;
+        }
+    }
+    return any;
+}
+
+/* How often the stopped set was applied: the flag was raised as often as it was lowered, and once more if it is up. */
+static void close_run(const struct kernel *kernel) {
+    expect(kernel->stopped, "no task was stopped");
+    unsigned state = kernel->cells[0] >> 8 & 0xff;
+    unsigned applied = kernel->lowered + state - kernel->raised;
+    expect(applied <= 1, "the stopped operation is applied more than once");
+    printf("cells");
+    for (size_t cell = 0; cell < TASKS + 1; cell++) {
+        printf(" %016" PRIx64, kernel->cells[cell]);
+    }
+    printf("\nstopped operation applied: %u\n", applied);
+}
+
+int main(int count, char **words) {
+    static struct kernel kernel;
+    expect(count == 2, "usage: kernel TABLE_FILE");
+    read_file(&kernel, words[1]);
+    start(&kernel);
+    while (turn(&kernel)) {
+    }
+    close_run(&kernel);
+    return EXIT_SUCCESS;
+}
