@@ -1,0 +1,89 @@
+//! The functions of the archive. A slice is handed over as its pointer and its length.
+
+use crate::Task;
+
+extern "C" {
+    fn drive_check(file: *const u8, file_length: usize) -> u64;
+    fn drive_start(
+        file: *const u8,
+        file_length: usize,
+        cells: *mut u64,
+        cell_count: usize,
+        row: *mut Task,
+        task_count: usize,
+    ) -> u64;
+    fn drive_begin(
+        file: *const u8,
+        file_length: usize,
+        row: *mut Task,
+        task_count: usize,
+        task: usize,
+        operation: usize,
+    ) -> u64;
+    fn drive_step(
+        file: *const u8,
+        file_length: usize,
+        cells: *mut u64,
+        cell_count: usize,
+        row: *mut Task,
+        task_count: usize,
+        task: usize,
+    ) -> u64;
+    fn drive_ceiling(task_count: usize) -> u64;
+}
+
+// In every call below each pointer comes with the length of its own slice, whose borrow lasts as long as the call and, for
+// what may be written, is exclusive; the called function touches nothing else.
+
+pub fn check(file: &[u8]) -> u64 {
+    // SAFETY: see above.
+    unsafe { drive_check(file.as_ptr(), file.len()) }
+}
+
+pub fn start(file: &[u8], cells: &mut [u64], row: &mut [Task]) -> u64 {
+    // SAFETY: see above. Every bit pattern is a cell, and every bit pattern of a record's fields is a record.
+    unsafe {
+        drive_start(
+            file.as_ptr(),
+            file.len(),
+            cells.as_mut_ptr(),
+            cells.len(),
+            row.as_mut_ptr(),
+            row.len(),
+        )
+    }
+}
+
+pub fn begin(file: &[u8], row: &mut [Task], task: usize, operation: usize) -> u64 {
+    // SAFETY: see above.
+    unsafe {
+        drive_begin(
+            file.as_ptr(),
+            file.len(),
+            row.as_mut_ptr(),
+            row.len(),
+            task,
+            operation,
+        )
+    }
+}
+
+pub fn step(file: &[u8], cells: &mut [u64], row: &mut [Task], task: usize) -> u64 {
+    // SAFETY: see above.
+    unsafe {
+        drive_step(
+            file.as_ptr(),
+            file.len(),
+            cells.as_mut_ptr(),
+            cells.len(),
+            row.as_mut_ptr(),
+            row.len(),
+            task,
+        )
+    }
+}
+
+pub fn ceiling(tasks: usize) -> u64 {
+    // SAFETY: nothing is lent.
+    unsafe { drive_ceiling(tasks) }
+}

@@ -1,0 +1,82 @@
+//! The drive object for kernels in Rust: a table of states and operations that up to eight tasks share through 64-bit
+//! cells. The contract is document 01, "The drive object, its cells and its steps"; `docs/LINKING.md` is the page about
+//! linking.
+//!
+//! The borrows say most of what a caller owes: file, cells and row are valid for the whole call, do not overlap, and nobody
+//! else writes them meanwhile. What is left to the kernel:
+//!
+//! - Begin and step are called with switching closed: one call ends before the next one starts.
+//! - Within a run (an accepted [`start`] and the begins and steps after it) nothing but the calls writes cells, row or
+//!   table, and every call is lent the same ones.
+//!
+//! Nothing is asked of task, operation or any length: a call that can't be served is refused with the first cause that
+//! holds, and then everything lent is left as it was. No call panics, allocates or keeps a reference.
+#![no_std]
+#![warn(missing_docs)]
+
+mod answer;
+mod foreign;
+
+pub use answer::{Progress, Refusal, Shape};
+
+/// The most tasks of a run. It has one cell more than tasks: cell 0 is the head, cell i + 1 the announcement of task i.
+pub const MOST_TASKS: usize = 8;
+
+/// The private record of a task, whose number is its place in the row. [`start`] fills it; only the calls write it. The
+/// forms stand in `docs/RECORDS.md`.
+#[repr(C)]
+#[derive(Clone, Copy, Debug, Default, PartialEq, Eq)]
+pub struct Task {
+    /// A saved head.
+    pub head: u64,
+    /// A saved announcement.
+    pub announcement: u64,
+    /// An operation that is to be applied, or the own response.
+    pub payload: u32,
+    /// The own steps since begin.
+    pub steps: u32,
+    /// The own operation.
+    pub operation: u16,
+    /// The task that is helped first.
+    pub priority: u16,
+    /// What the next step does; 0 is idle.
+    pub phase: u32,
+}
+
+const _: () = assert!(size_of::<Task>() == 32 && align_of::<Task>() == 8);
+
+/// Checks a table. Tests 1, 2, 3, then 4 on all entries.
+///
+/// Writes nothing. Its cost grows with states times operations.
+pub fn check(file: &[u8]) -> Result<Shape, Refusal> {
+    answer::shape(foreign::check(file))
+}
+
+/// Starts a run. Tests 1, 2, 3, 4 on all entries, 5, 6.
+///
+/// Writes every cell, with the image of the start state, and every record, with an idle task. They may hold anything
+/// before. Its cost grows with states times operations.
+pub fn start(file: &[u8], cells: &mut [u64], row: &mut [Task]) -> Result<(), Refusal> {
+    answer::accepted(foreign::start(file, cells, row)).map(|_| ())
+}
+
+/// Begins an operation for a task. Tests 1, 2, 3, 5, 7, 8, then 4 on the operation's entries, then 11, 9.
+///
+/// Writes the task's record, and leaves the row's other records. Its cost grows with the number of states.
+pub fn begin(file: &[u8], row: &mut [Task], task: usize, operation: usize) -> Result<(), Refusal> {
+    answer::accepted(foreign::begin(file, row, task, operation)).map(|_| ())
+}
+
+/// Makes one step for a task: one read, write or compare-and-swap on one cell. Tests 1, 2, 3, 5, 6, 7, 11, 10, 12, then 4
+/// on the one entry that it uses, if it uses one.
+///
+/// Writes the task's record and at most the one touched cell, and leaves every other record and cell. Its cost is bounded
+/// for all tables and numbers of tasks.
+pub fn step(file: &[u8], cells: &mut [u64], row: &mut [Task], task: usize) -> Result<Progress, Refusal> {
+    answer::progress(foreign::step(file, cells, row, task))
+}
+
+/// The ceiling of own steps of an operation, whatever the other tasks do. Tests 5 on the number of tasks.
+pub fn ceiling(tasks: usize) -> Result<u32, Refusal> {
+    answer::ceiling(foreign::ceiling(tasks))
+}

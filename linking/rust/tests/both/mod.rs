@@ -1,0 +1,91 @@
+//! The same call made through the archive and by the second program; answer, cells and row must be the same.
+
+use drive_object::{Progress, Refusal, Task};
+use reference::machine::Answer;
+use reference::record::Record;
+use reference::{file_calls, refusal};
+
+/// What a call is lent.
+#[derive(Clone)]
+pub struct Lent {
+    pub file: Vec<u8>,
+    pub cells: Vec<u64>,
+    pub row: Vec<Task>,
+}
+
+impl Lent {
+    pub fn new(file: Vec<u8>, tasks: usize) -> Lent {
+        Lent {
+            file,
+            cells: vec![0; tasks + 1],
+            row: vec![Task::default(); tasks],
+        }
+    }
+
+    /// The refusal's number, 0 if the call is accepted.
+    pub fn start(&mut self) -> u8 {
+        let mut second = self.second();
+        let ours = drive_object::start(&self.file, &mut self.cells, &mut self.row);
+        let theirs = file_calls::start(&self.file, &mut second.0, &mut second.1);
+        self.compare(number(ours), second, numbered(theirs))
+    }
+
+    /// The refusal's number, 0 if the call is accepted.
+    pub fn begin(&mut self, task: usize, operation: usize) -> u8 {
+        let mut second = self.second();
+        let ours = drive_object::begin(&self.file, &mut self.row, task, operation);
+        let theirs = file_calls::begin(&self.file, &mut second.1, task, operation);
+        self.compare(number(ours), second, numbered(theirs))
+    }
+
+    /// The progress, or the refusal's number.
+    pub fn step(&mut self, task: usize) -> Result<Progress, u8> {
+        let mut second = self.second();
+        let ours = drive_object::step(&self.file, &mut self.cells, &mut self.row, task);
+        let theirs = file_calls::step(&self.file, &mut second.0, &mut second.1, task);
+        let theirs = theirs.map(progress_of).map_err(refusal::Refusal::number);
+        self.compare(ours.map_err(Refusal::number), second, theirs)
+    }
+
+    fn second(&self) -> (Vec<u64>, Vec<Record>) {
+        (self.cells.clone(), self.row.iter().map(record_of).collect())
+    }
+
+    fn compare<A: PartialEq + std::fmt::Debug>(
+        &self,
+        ours: A,
+        second: (Vec<u64>, Vec<Record>),
+        theirs: A,
+    ) -> A {
+        let row: Vec<Record> = self.row.iter().map(record_of).collect();
+        assert_eq!((&ours, &self.cells, &row), (&theirs, &second.0, &second.1));
+        ours
+    }
+}
+
+fn number(answer: Result<(), Refusal>) -> u8 {
+    answer.map_or_else(Refusal::number, |()| 0)
+}
+
+fn numbered(answer: Result<(), refusal::Refusal>) -> u8 {
+    answer.map_or_else(refusal::Refusal::number, |()| 0)
+}
+
+fn progress_of(answer: Answer) -> Progress {
+    match answer {
+        Answer::Running => Progress::Running,
+        Answer::Ended { response, steps } => Progress::Ended { response, steps },
+    }
+}
+
+fn record_of(task: &Task) -> Record {
+    Record {
+        phase: u8::try_from(task.phase).expect("the tests lend phases of a byte"),
+        operation: task.operation,
+        priority: u8::try_from(task.priority).expect("the tests lend priorities of a byte"),
+        payload: task.payload,
+        head: task.head,
+        announcement: task.announcement,
+        steps: task.steps,
+    }
+}

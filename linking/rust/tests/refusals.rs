@@ -1,0 +1,182 @@
+//! Every refusal of every call, alone and with others, compared with the second program.
+
+mod both;
+
+use std::collections::BTreeSet;
+
+use both::Lent;
+use drive_object::{Refusal, Shape, Task};
+use reference::refusal;
+use reference::table::Table;
+use reference::table_file::TableFile;
+
+/// The flag's file, and one for each of the causes 1 to 4; 4 in each operation.
+fn files() -> Vec<Vec<u8>> {
+    let flag = TableFile::flag();
+    let damaged = |damage: &dyn Fn(&mut TableFile)| {
+        let mut file = flag.clone();
+        damage(&mut file);
+        file.to_bytes()
+    };
+    vec![
+        flag.to_bytes(),
+        Vec::new(),
+        damaged(&|file| file.mark[5] = b'2'),
+        damaged(&|file| file.start = 2),
+        damaged(&|file| file.offset = 1),
+        damaged(&|file| file.entries[0] = 2),
+        damaged(&|file| file.entries[8] = 2),
+        damaged(&|file| file.entries[10] = 255),
+        flag.clone().with_text(vec![b' '; 4_096]).to_bytes(),
+        flag.clone().with_text(vec![b' '; 4_097]).to_bytes(),
+        vec![0; 20_497],
+    ]
+}
+
+/// Records in form and out of form, for one task and more.
+fn records() -> Vec<Task> {
+    let idle = Task::default();
+    let pending = |phase: u32| Task { phase, ..idle };
+    vec![
+        idle,
+        Task { steps: 1, ..idle },
+        Task { priority: 9, ..idle },
+        pending(1),
+        pending(2),
+        pending(15),
+        pending(16),
+        Task {
+            payload: 1,
+            ..pending(16)
+        },
+        Task {
+            payload: 3,
+            ..pending(16)
+        },
+        Task {
+            head: 0x1_0000,
+            ..pending(5)
+        },
+        Task {
+            operation: 3,
+            ..pending(2)
+        },
+        Task {
+            steps: 1_000,
+            ..pending(3)
+        },
+        pending(41),
+        pending(88),
+    ]
+}
+
+const NUMBERS_OF_TASKS: [usize; 5] = [0, 1, 2, 8, 9];
+
+/// Every file with every record in every row, the cells too few, right, too many or out of form.
+fn for_all_lent(mut serve: impl FnMut(&Lent)) {
+    for file in files() {
+        for tasks in NUMBERS_OF_TASKS {
+            for record in records() {
+                let mut lent = Lent::new(file.clone(), tasks);
+                lent.row.fill(record);
+                for cells in [tasks, tasks + 1, tasks + 2] {
+                    for word in [0, 0x100, 0x300, 0x1_0100, 1 << 63] {
+                        lent.cells = vec![word; cells];
+                        serve(&lent);
+                    }
+                }
+            }
+        }
+    }
+}
+
+const TASK_NUMBERS: [usize; 4] = [0, 1, 8, usize::MAX];
+const OPERATION_NUMBERS: [usize; 5] = [0, 1, 2, 3, usize::MAX];
+
+#[test]
+fn check_answers_as_the_second_program() {
+    let mut seen = BTreeSet::new();
+    for file in files() {
+        let ours = drive_object::check(&file);
+        let theirs = Table::check(&file).map(|table| Shape {
+            states: table.states as u16,
+            operations: table.operations as u16,
+            start: table.start as u16,
+        });
+        assert_eq!(
+            ours.map_err(Refusal::number),
+            theirs.map_err(refusal::Refusal::number)
+        );
+        seen.insert(ours.map_or_else(Refusal::number, |_| 0));
+    }
+    assert_eq!(seen, BTreeSet::from([0, 1, 2, 3, 4]));
+}
+
+#[test]
+fn start_answers_as_the_second_program() {
+    let mut seen = BTreeSet::new();
+    for_all_lent(|lent| {
+        seen.insert(lent.clone().start());
+    });
+    assert_eq!(seen, BTreeSet::from([0, 1, 2, 3, 4, 5, 6]));
+}
+
+#[test]
+fn begin_answers_as_the_second_program() {
+    let mut seen = BTreeSet::new();
+    for_all_lent(|lent| {
+        for task in TASK_NUMBERS {
+            for operation in OPERATION_NUMBERS {
+                seen.insert(lent.clone().begin(task, operation));
+            }
+        }
+    });
+    assert_eq!(seen, BTreeSet::from([0, 1, 2, 3, 4, 5, 7, 8, 9, 11]));
+}
+
+#[test]
+fn step_answers_as_the_second_program() {
+    let mut seen = BTreeSet::new();
+    for_all_lent(|lent| {
+        for task in TASK_NUMBERS {
+            seen.insert(lent.clone().step(task).map_or_else(|number| number, |_| 0));
+        }
+    });
+    assert_eq!(seen, BTreeSet::from([0, 1, 2, 3, 4, 5, 6, 7, 10, 11, 12]));
+}
+
+#[test]
+fn ceiling_answers_as_the_second_program() {
+    for tasks in [0, 1, 2, 3, 4, 5, 6, 7, 8, 9, 256, usize::MAX] {
+        let theirs = reference::ceiling::ceiling(tasks).map_err(refusal::Refusal::number);
+        assert_eq!(drive_object::ceiling(tasks).map_err(Refusal::number), theirs);
+    }
+}
+
+/// The second program has these fields in a byte, so they are not compared with it.
+#[test]
+fn wide_phases_and_priorities_are_out_of_form() {
+    let flag = TableFile::flag().to_bytes();
+    for record in [
+        Task {
+            phase: 256 + 2,
+            ..Task::default()
+        },
+        Task {
+            phase: u32::MAX,
+            ..Task::default()
+        },
+        Task {
+            priority: 256,
+            ..Task::default()
+        },
+    ] {
+        let mut row = [record];
+        assert_eq!(drive_object::begin(&flag, &mut row, 0, 1), Err(Refusal::Record));
+        assert_eq!(
+            drive_object::step(&flag, &mut [0, 0], &mut row, 0),
+            Err(Refusal::Record)
+        );
+        assert_eq!(row, [record]);
+    }
+}
