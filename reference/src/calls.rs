@@ -51,7 +51,7 @@ pub fn step(table: &Table, cells: &mut [u64], row: &mut [Record], task: usize) -
 
 /// A step by other rules than the machine's: the explorer must find the wrong ones.
 pub fn step_by(
-    advance: Advance,
+    advance: impl Fn(&Table, usize, usize, &Record, Outcome) -> (Record, Answer),
     table: &Table,
     cells: &mut [u64],
     row: &mut [Record],

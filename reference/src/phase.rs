@@ -30,46 +30,50 @@ pub enum Phase {
     ReloadRelease(usize),
 }
 
-const SINGLE_PHASES: [Phase; 15] = [
-    Phase::Idle,
-    Phase::ReadOnly,
-    Phase::Announce,
-    Phase::Poll,
-    Phase::LoadHead,
-    Phase::LinkHead,
-    Phase::LoadPriority,
-    Phase::LoadOwn,
-    Phase::LoadExit,
-    Phase::LinkExit,
-    Phase::ClearExit,
-    Phase::ReleaseExit,
-    Phase::Retract,
-    Phase::ClearHead,
-    Phase::ReloadClear,
-];
-
-const RANGES: [fn(usize) -> Phase; 9] = [
-    Phase::Apply,
-    Phase::ReloadApply,
-    Phase::LoadHelped,
-    Phase::LinkHelped,
-    Phase::Validate,
-    Phase::HandOver,
-    Phase::ReloadHandOver,
-    Phase::Release,
-    Phase::ReloadRelease,
-];
-
 const FIRST_RANGE: u8 = 16;
 
 impl Phase {
     pub fn of_number(number: u8) -> Option<Phase> {
-        if number < FIRST_RANGE {
-            return SINGLE_PHASES.get(usize::from(number)).copied();
+        match number.checked_sub(FIRST_RANGE) {
+            None => Phase::of_single_number(number),
+            Some(place) => Phase::of_range(usize::from(place) / MOST_TASKS, usize::from(place) % MOST_TASKS),
         }
-        let place = usize::from(number - FIRST_RANGE);
-        let range = RANGES.get(place / MOST_TASKS)?;
-        Some(range(place % MOST_TASKS))
+    }
+
+    fn of_single_number(number: u8) -> Option<Phase> {
+        Some(match number {
+            0 => Phase::Idle,
+            1 => Phase::ReadOnly,
+            2 => Phase::Announce,
+            3 => Phase::Poll,
+            4 => Phase::LoadHead,
+            5 => Phase::LinkHead,
+            6 => Phase::LoadPriority,
+            7 => Phase::LoadOwn,
+            8 => Phase::LoadExit,
+            9 => Phase::LinkExit,
+            10 => Phase::ClearExit,
+            11 => Phase::ReleaseExit,
+            12 => Phase::Retract,
+            13 => Phase::ClearHead,
+            14 => Phase::ReloadClear,
+            _ => return None,
+        })
+    }
+
+    fn of_range(range: usize, task: usize) -> Option<Phase> {
+        Some(match range {
+            0 => Phase::Apply(task),
+            1 => Phase::ReloadApply(task),
+            2 => Phase::LoadHelped(task),
+            3 => Phase::LinkHelped(task),
+            4 => Phase::Validate(task),
+            5 => Phase::HandOver(task),
+            6 => Phase::ReloadHandOver(task),
+            7 => Phase::Release(task),
+            8 => Phase::ReloadRelease(task),
+            _ => return None,
+        })
     }
 
     pub fn number(self) -> u8 {
