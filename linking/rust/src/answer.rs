@@ -51,6 +51,7 @@ impl Refusal {
         }
     }
 
+    #[inline]
     fn of_number(number: u8) -> Refusal {
         match number {
             1 => Refusal::File,
@@ -96,6 +97,7 @@ pub enum Progress {
 }
 
 /// The word of an accepted call, or the refusal.
+#[inline]
 pub fn accepted(word: u64) -> Result<u64, Refusal> {
     match word as u8 {
         0 => Ok(word),
@@ -104,6 +106,7 @@ pub fn accepted(word: u64) -> Result<u64, Refusal> {
 }
 
 /// Bytes 2 and 3 are the states, 4 and 5 the operations, 6 and 7 the start state.
+#[inline]
 pub fn shape(word: u64) -> Result<Shape, Refusal> {
     accepted(word).map(|word| Shape {
         states: (word >> 16) as u16,
@@ -113,6 +116,7 @@ pub fn shape(word: u64) -> Result<Shape, Refusal> {
 }
 
 /// Byte 1 is 1 if the operation has ended; then bytes 2 and 3 are the response, and 4 to 7 the own steps.
+#[inline]
 pub fn progress(word: u64) -> Result<Progress, Refusal> {
     accepted(word).map(|word| match (word >> 8) as u8 {
         0 => Progress::Running,
@@ -124,6 +128,7 @@ pub fn progress(word: u64) -> Result<Progress, Refusal> {
 }
 
 /// Bytes 4 to 7 are the ceiling.
+#[inline]
 pub fn ceiling(word: u64) -> Result<u32, Refusal> {
     accepted(word).map(|word| (word >> 32) as u32)
 }

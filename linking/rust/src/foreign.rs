@@ -35,11 +35,13 @@ extern "C" {
 // In every call below each pointer comes with the length of its own slice, whose borrow lasts as long as the call and, for
 // what may be written, is exclusive; the called function touches nothing else.
 
+#[inline]
 pub fn check(file: &[u8]) -> u64 {
     // SAFETY: see above.
     unsafe { drive_check(file.as_ptr(), file.len()) }
 }
 
+#[inline]
 pub fn start(file: &[u8], cells: &mut [u64], row: &mut [Task]) -> u64 {
     // SAFETY: see above. Every bit pattern is a cell, and every bit pattern of a record's fields is a record.
     unsafe {
@@ -54,6 +56,7 @@ pub fn start(file: &[u8], cells: &mut [u64], row: &mut [Task]) -> u64 {
     }
 }
 
+#[inline]
 pub fn begin(file: &[u8], row: &mut [Task], task: usize, operation: usize) -> u64 {
     // SAFETY: see above.
     unsafe {
@@ -68,6 +71,7 @@ pub fn begin(file: &[u8], row: &mut [Task], task: usize, operation: usize) -> u6
     }
 }
 
+#[inline]
 pub fn step(file: &[u8], cells: &mut [u64], row: &mut [Task], task: usize) -> u64 {
     // SAFETY: see above.
     unsafe {
@@ -83,6 +87,7 @@ pub fn step(file: &[u8], cells: &mut [u64], row: &mut [Task], task: usize) -> u6
     }
 }
 
+#[inline]
 pub fn ceiling(tasks: usize) -> u64 {
     // SAFETY: nothing is lent.
     unsafe { drive_ceiling(tasks) }

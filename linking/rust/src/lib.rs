@@ -48,6 +48,7 @@ const _: () = assert!(size_of::<Task>() == 32 && align_of::<Task>() == 8);
 /// Checks a table. Tests 1, 2, 3, then 4 on all entries.
 ///
 /// Writes nothing. Its cost grows with states times operations.
+#[inline]
 pub fn check(file: &[u8]) -> Result<Shape, Refusal> {
     answer::shape(foreign::check(file))
 }
@@ -56,6 +57,7 @@ pub fn check(file: &[u8]) -> Result<Shape, Refusal> {
 ///
 /// Writes every cell, with the image of the start state, and every record, with an idle task. They may hold anything
 /// before. Its cost grows with states times operations.
+#[inline]
 pub fn start(file: &[u8], cells: &mut [u64], row: &mut [Task]) -> Result<(), Refusal> {
     answer::accepted(foreign::start(file, cells, row)).map(|_| ())
 }
@@ -63,6 +65,7 @@ pub fn start(file: &[u8], cells: &mut [u64], row: &mut [Task]) -> Result<(), Ref
 /// Begins an operation for a task. Tests 1, 2, 3, 5, 7, 8, then 4 on the operation's entries, then 11, 9.
 ///
 /// Writes the task's record, and leaves the row's other records. Its cost grows with the number of states.
+#[inline]
 pub fn begin(file: &[u8], row: &mut [Task], task: usize, operation: usize) -> Result<(), Refusal> {
     answer::accepted(foreign::begin(file, row, task, operation)).map(|_| ())
 }
@@ -72,11 +75,13 @@ pub fn begin(file: &[u8], row: &mut [Task], task: usize, operation: usize) -> Re
 ///
 /// Writes the task's record and at most the one touched cell, and leaves every other record and cell. Its cost is bounded
 /// for all tables and numbers of tasks.
+#[inline]
 pub fn step(file: &[u8], cells: &mut [u64], row: &mut [Task], task: usize) -> Result<Progress, Refusal> {
     answer::progress(foreign::step(file, cells, row, task))
 }
 
 /// The ceiling of own steps of an operation, whatever the other tasks do. Tests 5 on the number of tasks.
+#[inline]
 pub fn ceiling(tasks: usize) -> Result<u32, Refusal> {
     answer::ceiling(foreign::ceiling(tasks))
 }
