@@ -1,19 +1,20 @@
 /*
- * The drive object for kernels in C: a table of states and operations that up to eight tasks share through 64-bit cells.
- * Link with libdrive_object.a. The contract is document 01, "The drive object, its cells and its steps"; docs/LINKING.md is
- * the page about linking.
+ * The drive object for kernels in C: a table of states and operations that up to eight tasks share through 64-bit
+ * cells. Link with libdrive_object.a. The contract is document 01, "The drive object, its cells and its steps";
+ * docs/LINKING.md is the page about linking.
  *
  * What the caller owes, at every call:
  *  - Lent memory is valid for the whole call, to its given length: `file` to be read, `cells` and `row` to be read and
  *    written. Cells and row are aligned to 8 bytes and hold values. With length 0 the pointer may have any value.
  *  - File, cells and row do not overlap, and nobody else writes them during the call.
  *  - Begin and step are called with switching closed: one call ends before the next one starts.
- * Within a run (an accepted start and the begins and steps after it) nothing but the calls writes cells, row or table, and
- * every call is lent the same ones. Nothing is asked of task, operation or any length: a call that can't be served is
- * refused. A call keeps no pointer, allocates nothing and calls nothing.
+ * Within a run (an accepted start and the begins and steps after it) nothing but the calls writes cells, row or
+ * table, and every call is lent the same ones. Nothing is asked of task, operation or any length: a call that can't
+ * be served is refused. A call keeps no pointer and allocates nothing; start calls memset, and no call anything else.
  *
- * Every call answers with one word, which the drive_answer functions below read. Byte 0, the lowest, is 0 if the call is
- * accepted, else the number of the first cause that holds; then every other byte is 0 and everything lent is left as it was.
+ * Every call answers with one word, which the drive_answer functions below read. Byte 0, the lowest, is 0 if the call
+ * is accepted, else the number of the first cause that holds; then every other byte is 0 and everything lent is left
+ * as it was.
  */
 #ifndef DRIVE_OBJECT_H
 #define DRIVE_OBJECT_H
@@ -26,7 +27,8 @@
 extern "C" {
 #endif
 
-/* The most tasks of a run. It has one cell more than tasks: cell 0 is the head, cell i + 1 the announcement of task i. */
+/* The most tasks of a run. It has one cell more than tasks: cell 0 is the head, cell i + 1 the announcement of
+ * task i. */
 #define DRIVE_MOST_TASKS 8
 
 /* Why a call is not served. */
@@ -45,8 +47,8 @@ enum drive_refusal {
     DRIVE_CELL = 12        /* touched cell out of form */
 };
 
-/* The private record of a task, whose number is its place in the row. Start fills it; only the calls write it. The forms
- * stand in docs/RECORDS.md. */
+/* The private record of a task, whose number is its place in the row. Start fills it; only the calls write it. The
+ * forms stand in docs/RECORDS.md. */
 typedef struct drive_task {
     uint64_t head;         /* a saved head */
     uint64_t announcement; /* a saved announcement */
@@ -70,26 +72,25 @@ _Static_assert(sizeof(drive_task) == 32, "a record has 32 bytes");
 uint64_t drive_check(const uint8_t *file, size_t file_length);
 
 /*
- * Starts a run. Tests 1, 2, 3, 4 on all entries, 5, 6.
- * Writes every cell, with the image of the start state, and every record, with an idle task. They may hold anything before.
- * Its cost grows with states times operations.
+ * Starts a run. Tests 1, 2, 3, 4 on all entries, 5, 6. Writes every cell, with the image of the start state, and
+ * every record, with an idle task. They may hold anything before. Its cost grows with states times operations.
  */
 uint64_t drive_start(const uint8_t *file, size_t file_length, uint64_t *cells, size_t cell_count, drive_task *row,
                      size_t task_count);
 
 /*
- * Begins an operation for a task. Tests 1, 2, 3, 5, 7, 8, then 4 on the operation's entries, then 11, 9.
- * Writes the task's record, and leaves the row's other records and every cell. Its cost grows with the number of states.
+ * Begins an operation for a task. Tests 1, 2, 3, 5, 7, 8, then 4 on the operation's entries, then 11, 9. Writes the
+ * task's record, and leaves the row's other records and every cell. Its cost grows with the number of states.
  */
 uint64_t drive_begin(const uint8_t *file, size_t file_length, drive_task *row, size_t task_count, size_t task,
                      size_t operation);
 
 /*
- * Makes one step for a task: one read, write or compare-and-swap on one cell. Tests 1, 2, 3, 5, 6, 7, 11, 10, 12, then 4 on
- * the one entry that it uses, if it uses one.
- * Writes the task's record and at most the one touched cell, and leaves every other record and cell. Answers running, or
- * ended with the response and the number of own steps since begin, this one counted, which is at most the ceiling. Its cost
- * is bounded for all tables and numbers of tasks.
+ * Makes one step for a task: one read, write or compare-and-swap on one cell. Tests 1, 2, 3, 5, 6, 7, 11, 10, 12,
+ * then 4 on the one entry that it uses, if it uses one. Writes the task's record and at most the one touched cell,
+ * and leaves every other record and cell. Answers running, or ended with the response and the number of own steps
+ * since begin, this one counted, which is at most the ceiling. Its cost is bounded for all tables and numbers of
+ * tasks.
  */
 uint64_t drive_step(const uint8_t *file, size_t file_length, uint64_t *cells, size_t cell_count, drive_task *row,
                     size_t task_count, size_t task);

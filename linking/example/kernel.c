@@ -1,7 +1,7 @@
 /*
- * A kernel in C over the drive object: three tasks take turns, one step to a turn, over the flag object. Task 1 is stopped
- * for good inside an operation, with its mark in the head; a lock would be held there for ever. The others end all of
- * their operations all the same.
+ * A kernel in C over the drive object: three tasks take turns, one step to a turn, over the flag object. Task 1 is
+ * stopped for good inside an operation, with its mark in the head; a lock would be held there for ever. The others
+ * end all of their operations all the same.
  *
  * usage: kernel TABLE_FILE
  */
@@ -98,7 +98,7 @@ static void note_stop(struct kernel *kernel, size_t task, size_t operation) {
            kernel->own_steps[task], kernel->cells[0]);
 }
 
-/* Begins the task's next operation if it is idle, and makes one step. A real kernel closes switching around each call. */
+/* Begins the task's next operation if it is idle, and makes one step. A real kernel closes switching around both. */
 static void turn_of(struct kernel *kernel, size_t task) {
     size_t operation = programs[task].operations[kernel->ended[task]];
     if (!kernel->pending[task]) {

@@ -1,4 +1,4 @@
-//! Links libdrive_object.a from the folder in DRIVE_OBJECT_FOLDER, else from where `rt staticlib drive_object` writes it.
+//! Links libdrive_object.a from the folder in DRIVE_OBJECT_FOLDER, else from where `rt staticlib` writes it.
 
 use std::path::PathBuf;
 

@@ -103,7 +103,7 @@ impl Kernel {
         Ok(any)
     }
 
-    /// Begins the task's next operation if it is idle, and makes one step. A real kernel closes switching around each call.
+    /// Begins the task's next operation if it is idle, and makes one step. A real kernel closes switching around both.
     fn turn_of(&mut self, task: usize, program: &[usize]) -> Result<(), String> {
         let operation = program[self.ended[task]];
         if self.own_steps[task].is_none() {
@@ -139,7 +139,8 @@ impl Kernel {
         self.lowered += u64::from(operation == CLEAR && response == 1);
     }
 
-    /// How often the stopped set was applied: the flag was raised as often as it was lowered, and once more if it is up.
+    /// How often the stopped set was applied: the flag was raised as often as it was lowered, and once more if it is
+    /// up.
     fn close(&self) -> Result<(), String> {
         expect(self.stopped, "no task was stopped")?;
         let state = self.cells[0] >> 8 & 0xff;

@@ -32,8 +32,8 @@ extern "C" {
     fn drive_ceiling(task_count: usize) -> u64;
 }
 
-// In every call below each pointer comes with the length of its own slice, whose borrow lasts as long as the call and, for
-// what may be written, is exclusive; the called function touches nothing else.
+// In every call below each pointer comes with the length of its own slice, whose borrow lasts as long as the call
+// and, for what may be written, is exclusive; the called function touches nothing else.
 
 #[inline]
 pub fn check(file: &[u8]) -> u64 {

@@ -2,8 +2,8 @@
 //! cells. The contract is document 01, "The drive object, its cells and its steps"; `docs/LINKING.md` is the page about
 //! linking.
 //!
-//! The borrows say most of what a caller owes: file, cells and row are valid for the whole call, do not overlap, and nobody
-//! else writes them meanwhile. What is left to the kernel:
+//! The borrows say most of what a caller owes: file, cells and row are valid for the whole call, do not overlap, and
+//! nobody else writes them meanwhile. What is left to the kernel:
 //!
 //! - Begin and step are called with switching closed: one call ends before the next one starts.
 //! - Within a run (an accepted [`start`] and the begins and steps after it) nothing but the calls writes cells, row or
@@ -70,11 +70,11 @@ pub fn begin(file: &[u8], row: &mut [Task], task: usize, operation: usize) -> Re
     answer::accepted(foreign::begin(file, row, task, operation)).map(|_| ())
 }
 
-/// Makes one step for a task: one read, write or compare-and-swap on one cell. Tests 1, 2, 3, 5, 6, 7, 11, 10, 12, then 4
-/// on the one entry that it uses, if it uses one.
+/// Makes one step for a task: one read, write or compare-and-swap on one cell. Tests 1, 2, 3, 5, 6, 7, 11, 10, 12,
+/// then 4 on the one entry that it uses, if it uses one.
 ///
-/// Writes the task's record and at most the one touched cell, and leaves every other record and cell. Its cost is bounded
-/// for all tables and numbers of tasks.
+/// Writes the task's record and at most the one touched cell, and leaves every other record and cell. Its cost is
+/// bounded for all tables and numbers of tasks.
 #[inline]
 pub fn step(file: &[u8], cells: &mut [u64], row: &mut [Task], task: usize) -> Result<Progress, Refusal> {
     answer::progress(foreign::step(file, cells, row, task))
