@@ -25,7 +25,7 @@ mod packed_point;
 mod phase;
 mod potential;
 mod process;
-mod random;
+pub mod random;
 mod random_runs;
 pub mod record;
 mod reduced;

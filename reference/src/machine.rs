@@ -187,18 +187,18 @@ fn after_read(task: usize, record: Record, phase: Phase, word: u64) -> Record {
         Phase::LoadOwn => after_load_own(task, record, word),
         Phase::LoadExit => after_load_exit(task, record, word),
         Phase::ReloadClear if marked => record.bare_in_phase(Phase::ClearHead).with_head(word),
-        Phase::ReloadApply(other) if marked => record.with_phase(Phase::Apply(other)).with_head(word),
+        Phase::ReloadApply(other) if marked => record.with_payload_in(Phase::Apply(other)).with_head(word),
         Phase::ReloadClear | Phase::ReloadApply(_) => record.bare_in_phase(Phase::Poll),
         Phase::LoadHelped(other) => record
-            .with_phase(Phase::LinkHelped(other))
+            .with_head_in(Phase::LinkHelped(other))
             .with_announcement(word),
-        Phase::Validate(other) if marked => record.with_phase(Phase::HandOver(other)),
-        Phase::Validate(other) => record.with_phase(Phase::Release(other)),
-        Phase::ReloadHandOver(other) if marked => {
-            record.with_phase(Phase::HandOver(other)).with_announcement(word)
-        }
+        Phase::Validate(other) if marked => record.with_both_in(Phase::HandOver(other)),
+        Phase::Validate(other) => record.with_both_in(Phase::Release(other)),
+        Phase::ReloadHandOver(other) if marked => record
+            .with_head_in(Phase::HandOver(other))
+            .with_announcement(word),
         Phase::ReloadRelease(other) if marked => {
-            record.with_phase(Phase::Release(other)).with_announcement(word)
+            record.with_head_in(Phase::Release(other)).with_announcement(word)
         }
         Phase::ReloadHandOver(_) | Phase::ReloadRelease(_) => go_on_with_head(record),
         other => panic!("{other:?} does not read"),
@@ -215,7 +215,7 @@ fn after_poll(record: Record, word: u64) -> Record {
 fn after_load_priority(record: Record, word: u64) -> Record {
     match Announcement::decode(word) {
         Announcement::Operation(operation) => apply(record, usize::from(record.priority), operation),
-        _ => record.with_phase(Phase::LoadOwn),
+        _ => record.with_head_in(Phase::LoadOwn),
     }
 }
 
@@ -233,9 +233,9 @@ fn after_load_exit(task: usize, record: Record, word: u64) -> Record {
         (true, true) => Phase::ClearExit,
         (true, false) => Phase::LinkExit,
         (false, true) => Phase::ReleaseExit,
-        (false, false) => return record.with_phase(Phase::Retract),
+        (false, false) => return record.with_payload_in(Phase::Retract),
     };
-    record.with_phase(phase).with_head(word)
+    record.with_payload_in(phase).with_head(word)
 }
 
 fn after_swap(tasks: usize, task: usize, record: Record, phase: Phase, yes: bool) -> Record {
@@ -243,24 +243,26 @@ fn after_swap(tasks: usize, task: usize, record: Record, phase: Phase, yes: bool
         (Phase::LinkHead, true) => after_link_head(record, with_mark(record.head, task)),
         (Phase::LinkHead, false) => record.bare_in_phase(Phase::Poll),
         (Phase::LinkExit, true) => record
-            .with_phase(Phase::ClearExit)
+            .with_payload_in(Phase::ClearExit)
             .with_head(with_mark(record.head, task)),
-        (Phase::ClearExit | Phase::ReleaseExit, true) => record.with_phase(Phase::Retract).with_head(0),
+        (Phase::ClearExit | Phase::ReleaseExit, true) => record.with_payload_in(Phase::Retract),
         (Phase::LinkExit | Phase::ClearExit | Phase::ReleaseExit, false) => {
-            record.with_phase(Phase::LoadExit).with_head(0)
+            record.with_payload_in(Phase::LoadExit)
         }
         (Phase::ClearHead, true) => record.bare_in_phase(Phase::Poll),
-        (Phase::ClearHead, false) => record.with_phase(Phase::ReloadClear),
+        (Phase::ClearHead, false) => record.with_head_in(Phase::ReloadClear),
         (Phase::Apply(_), true) => Record {
             priority: ((usize::from(record.priority) + 1) % tasks) as u8,
             ..record.bare_in_phase(Phase::Poll)
         },
-        (Phase::Apply(other), false) => record.with_phase(Phase::ReloadApply(other)),
+        (Phase::Apply(other), false) => record
+            .with_payload_in(Phase::ReloadApply(other))
+            .with_head(record.head),
         (Phase::LinkHelped(other), true) => after_link_helped(task, record, other),
         (Phase::LinkHelped(_), false) => record.bare_in_phase(Phase::Poll),
         (Phase::HandOver(_) | Phase::Release(_), true) => go_on_with_head(record),
-        (Phase::HandOver(other), false) => record.with_phase(Phase::ReloadHandOver(other)),
-        (Phase::Release(other), false) => record.with_phase(Phase::ReloadRelease(other)),
+        (Phase::HandOver(other), false) => record.with_both_in(Phase::ReloadHandOver(other)),
+        (Phase::Release(other), false) => record.with_both_in(Phase::ReloadRelease(other)),
         (other, _) => panic!("{other:?} does not swap"),
     }
 }
@@ -279,13 +281,13 @@ fn after_link_helped(task: usize, record: Record, other: usize) -> Record {
         _ => Phase::Release(other),
     };
     record
-        .with_phase(phase)
+        .with_head_in(phase)
         .with_announcement(with_mark(record.announcement, task))
 }
 
 fn apply(record: Record, task: usize, operation: u16) -> Record {
     record
-        .with_phase(Phase::Apply(task))
+        .with_head_in(Phase::Apply(task))
         .with_payload(u32::from(operation))
 }
 
@@ -297,7 +299,7 @@ fn leave(record: Record, response: u16) -> Record {
 }
 
 fn go_on_with_head(record: Record) -> Record {
-    record.bare_in_phase(Phase::ClearHead).with_head(record.head)
+    record.with_head_in(Phase::ClearHead)
 }
 
 #[cfg(test)]

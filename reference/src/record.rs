@@ -36,6 +36,21 @@ impl Record {
         }
     }
 
+    /// The record in another phase that keeps the payload alone.
+    pub fn with_payload_in(self, phase: Phase) -> Record {
+        self.bare_in_phase(phase).with_payload(self.payload)
+    }
+
+    /// The record in another phase that keeps the saved head alone.
+    pub fn with_head_in(self, phase: Phase) -> Record {
+        self.bare_in_phase(phase).with_head(self.head)
+    }
+
+    /// The record in another phase that keeps both saved words.
+    pub fn with_both_in(self, phase: Phase) -> Record {
+        self.with_head_in(phase).with_announcement(self.announcement)
+    }
+
     /// The record in another phase, all else kept.
     pub fn with_phase(self, phase: Phase) -> Record {
         Record {
