@@ -4,26 +4,42 @@ use crate::cells::{Announcement, Head};
 use crate::configuration::Configuration;
 use crate::phase::Phase;
 
-const NEW_RANKS: u32 = 50;
-const STAGE_FIXED: u32 = 36;
-const CLEARED_PER_TASK: u32 = 120;
-const CLEARED_FIXED: u32 = 60;
-const RETRY: u32 = 5;
+/// What a change by another task may cost, in own steps: of the head, of an announcement, and the loss of the mark.
+const HEAD_CHANGE: u32 = 3;
+const ANNOUNCEMENT_CHANGE: u32 = 5;
 const LOST: u32 = 13;
-const HIGHEST_RANK: u32 = 9;
+
+/// What a task that links a held head can do to the announcement of its holder: mark and unmark it.
+const HELP: u32 = 2 * ANNOUNCEMENT_CHANGE;
+
+const HIGHEST_RANK: u32 = 39;
+const RESPONSE_RISE: u32 = 26;
 
 /// The potential of an operation at its begin: the bound that is proved.
 pub fn at_begin(tasks: usize) -> u32 {
     let n = tasks as u32;
-    (3 * n * n + 5) * stage_price(n) + cleared_bound(n)
+    n * n * cycle_price(n) + HIGHEST_RANK * n + cleared_bound(n)
 }
 
-fn stage_price(n: u32) -> u32 {
-    NEW_RANKS * n + STAGE_FIXED
+/// What an apply may cost: the ranks of the others may rise, the word go stale, the mark in the head be lost.
+fn apply_price(n: u32) -> u32 {
+    (HEAD_CHANGE + HELP) * (n - 1) + HEAD_CHANGE + LOST
+}
+
+/// What a hand-over to another task may cost.
+const HAND_OVER_PRICE: u32 = RESPONSE_RISE + ANNOUNCEMENT_CHANGE;
+
+/// What a clear may cost; a free head gives no help to come.
+fn clear_price(n: u32) -> u32 {
+    HEAD_CHANGE * (n - 1) + HEAD_CHANGE + LOST
+}
+
+fn cycle_price(n: u32) -> u32 {
+    apply_price(n) + HAND_OVER_PRICE + clear_price(n)
 }
 
 fn cleared_bound(n: u32) -> u32 {
-    CLEARED_PER_TASK * n + CLEARED_FIXED
+    59 * n + 32
 }
 
 /// The potential of a task with a changing operation pending.
@@ -40,20 +56,22 @@ pub fn potential(point: &Configuration, task: usize) -> u32 {
 
 fn waiting_potential(point: &Configuration, task: usize, phase: Phase) -> u32 {
     let n = point.tasks as u32;
-    stages_to_wait_for(point, task) * stage_price(n)
-        + RETRY * ranks_of_others(point, task)
+    stages_to_wait_for(point, task)
+        + ranks_of_others(point, task)
         + position(phase, false)
-        + RETRY * u32::from(is_stale(point, task, phase))
+        + stale_price(point, task, phase)
         + LOST * u32::from(phase.is_after_link() && !point.is_linked_to_head(task))
         + cleared_bound(n)
 }
 
 fn cleared_potential(point: &Configuration, task: usize, phase: Phase) -> u32 {
-    let linking = matches!(phase, Phase::LinkHead | Phase::LinkHelped(_));
-    let stale = u32::from(!linking && is_stale(point, task, phase));
+    let stale = match phase {
+        Phase::LinkHead | Phase::LinkHelped(_) => 0,
+        _ => stale_price(point, task, phase),
+    };
     let head = head_changes(point, task, phase);
-    let announcement = announcement_changes(point, task, phase);
-    position(phase, true) + RETRY * (stale + head + announcement)
+    let announcement = ANNOUNCEMENT_CHANGE * announcement_changes(point, task, phase);
+    position(phase, true) + stale + head + announcement
 }
 
 /// Where the cycle of the head stands.
@@ -72,18 +90,19 @@ fn stage(point: &Configuration) -> Stage {
     }
 }
 
-/// The stage changes that the task may still have to wait for.
+/// The price of the stage changes that the task may still have to wait for.
 fn stages_to_wait_for(point: &Configuration, task: usize) -> u32 {
     if point.is_holder(task) {
-        return 1;
+        return 0;
     }
-    let distance: u32 = (0..point.tasks).map(|other| distance(point, other, task)).sum();
+    let n = point.tasks as u32;
+    let cycles: u32 = (0..point.tasks).map(|other| distance(point, other, task)).sum();
     let left_in_cycle = match stage(point) {
-        Stage::NoHolder => 2,
-        Stage::HolderCleared => 3,
-        Stage::HolderWaits => 4,
+        Stage::NoHolder => apply_price(n),
+        Stage::HolderCleared => clear_price(n) + apply_price(n),
+        Stage::HolderWaits => HAND_OVER_PRICE + clear_price(n) + apply_price(n),
     };
-    3 * distance + left_in_cycle
+    cycles * cycle_price(n) + left_in_cycle
 }
 
 /// How often `other` can still apply somebody else before it applies `task`.
@@ -122,6 +141,17 @@ pub fn is_stale(point: &Configuration, task: usize, phase: Phase) -> bool {
     }
 }
 
+/// What it may cost that the word is not in the cell any more.
+fn stale_price(point: &Configuration, task: usize, phase: Phase) -> u32 {
+    let change = match phase {
+        Phase::LinkHelped(_) | Phase::Validate(_) | Phase::HandOver(_) | Phase::Release(_) => {
+            ANNOUNCEMENT_CHANGE
+        }
+        _ => HEAD_CHANGE,
+    };
+    change * u32::from(is_stale(point, task, phase))
+}
+
 fn ranks_of_others(point: &Configuration, task: usize) -> u32 {
     others(point, task).map(|other| rank(point, other)).sum()
 }
@@ -130,26 +160,33 @@ fn others(point: &Configuration, task: usize) -> impl Iterator<Item = usize> {
     (0..point.tasks).filter(move |&other| other != task)
 }
 
-/// How many times a task can still change a cell before the next stage change.
+/// What the changes of cells by a task before the next stage change may still cost another.
 fn rank(point: &Configuration, task: usize) -> u32 {
     let cleared = point.is_cleared(task);
     let linked = point.is_linked_to_head(task);
     let phase = point.record(task).known_phase();
+    let helping = match stage(point) {
+        Stage::NoHolder => 0,
+        Stage::HolderWaits | Stage::HolderCleared => HELP,
+    };
+    let announcing = ANNOUNCEMENT_CHANGE + HEAD_CHANGE + helping;
+    let retracting = ANNOUNCEMENT_CHANGE + announcing;
     let base = match phase {
-        Phase::Idle | Phase::ReadOnly | Phase::Announce => return 4,
-        Phase::Retract => return 5,
+        Phase::Idle | Phase::ReadOnly | Phase::Announce => return announcing,
+        Phase::Retract => return retracting,
         Phase::Poll if cleared => 0,
-        Phase::Poll | Phase::LoadHead | Phase::LinkHead => 2,
-        Phase::LoadHelped(_) | Phase::LinkHelped(_) => 2,
-        Phase::Validate(_) | Phase::Release(_) | Phase::ReloadRelease(_) => 1,
+        Phase::LoadHead | Phase::LinkHead if cleared => HELP,
+        Phase::Poll | Phase::LoadHead | Phase::LinkHead => helping,
+        Phase::LoadHelped(_) | Phase::LinkHelped(_) => HELP,
+        Phase::Validate(_) | Phase::Release(_) | Phase::ReloadRelease(_) => ANNOUNCEMENT_CHANGE,
         _ => 0,
     };
     let extra = match (cleared, linked) {
-        (true, true) => 6,
-        (true, false) => 7,
+        (true, true) => HEAD_CHANGE + retracting,
+        (true, false) => 2 * HEAD_CHANGE + retracting,
         (false, true) => 0,
-        (false, false) if phase.is_after_link() => 3,
-        (false, false) => 1,
+        (false, false) if phase.is_after_link() => HEAD_CHANGE + helping,
+        (false, false) => HEAD_CHANGE,
     };
     base + extra
 }
@@ -178,19 +215,19 @@ fn position(phase: Phase, cleared: bool) -> u32 {
     }
 }
 
-/// How often others can still change the head while a cleared task has to do with it.
+/// What the changes of the head by others may still cost while a cleared task has to do with it.
 fn head_changes(point: &Configuration, task: usize, phase: Phase) -> u32 {
     let n = point.tasks as u32;
     let concerned = point.is_linked_to_head(task) || point.is_holder(task);
     let now = match concerned {
         true => {
-            let hand_over = HIGHEST_RANK * u32::from(stage(point) == Stage::HolderWaits);
-            1 + ranks_of_others(point, task) + hand_over
+            let hand_over = RESPONSE_RISE * u32::from(stage(point) == Stage::HolderWaits);
+            HEAD_CHANGE + ranks_of_others(point, task) + hand_over
         }
         false => 0,
     };
     let to_come = match phase {
-        Phase::LoadHead | Phase::LinkHead => HIGHEST_RANK * n + 1,
+        Phase::LoadHead | Phase::LinkHead => HIGHEST_RANK * n,
         _ => 0,
     };
     now + to_come
@@ -244,9 +281,9 @@ mod tests {
 
     #[test]
     fn the_bounds_at_begin_are_those_of_the_design() {
-        assert_eq!(at_begin(1), 868);
-        assert_eq!(at_begin(2), 2_612);
-        assert_eq!(at_begin(8), 86_912);
+        assert_eq!(at_begin(1), 193);
+        assert_eq!(at_begin(2), 544);
+        assert_eq!(at_begin(8), 12_016);
     }
 
     #[test]

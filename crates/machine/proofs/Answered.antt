@@ -1,12 +1,12 @@
 -- The potential of an operation that has its response, when the cells and the record of one task i change.
 use mathlib.Core.Path.{_≡_, refl, sym, _∙_, ap}
-use mathlib.Core.Bool.{Bool, true, false, _&&_, _||_}
+use mathlib.Core.Bool.{Bool, true, false, _||_, not}
 use mathlib.Core.Logic.{_≢_}
 use Prim.Native.Nat.{ℕ, _+_, _*_, _≤_, _<_}
 use native.Mathlib.Decide.{ℕ-discrete}
 use native.Mathlib.Omega.{arith}
 use Rattle.machine.specs.Memory.{HeadValue, Free, Held, Content, Cell, Memory, update, head-dec, announcement-dec}
-use Rattle.machine.specs.Machine.{Phase, Idle, ReadOnly, Announce, Poll, LoadHead, LinkHead, LoadPriority, LoadOwn, Apply, ReloadApply, LoadHelped, LinkHelped, Validate, HandOver, ReloadHandOver, Release, ReloadRelease, ClearHead, ReloadClear, LoadExit, LinkExit, ClearExit, ReleaseExit, Retract, Task, pick}
+use Rattle.machine.specs.Machine.{Phase, Idle, ReadOnly, Announce, Poll, LoadHead, LinkHead, LoadPriority, LoadOwn, Apply, ReloadApply, LoadHelped, LinkHelped, Validate, HandOver, ReloadHandOver, Release, ReloadRelease, ClearHead, ReloadClear, LoadExit, LinkExit, ClearExit, ReleaseExit, Retract, Task, decided, pick}
 use Rattle.machine.specs.Run.{Config}
 use Rattle.machine.specs.Invariant.{inHead, inAnnouncement, headValue, content, OwnSaved}
 use Rattle.machine.specs.Potential.{row, Work, Elsewhere, Linking, Passing, Applying, Approaching, Marking, Finishing, HeadWord, AnnouncementWord, one, stale, holds, unanswered, but, linking, counts, owes, atHead, headLoad, debts, headPart, markPart, announcementAside, lasts, answeredPotential}
@@ -14,7 +14,7 @@ use Rattle.machine.proofs.Update.{clash, update-same, update-other, eit
 use Rattle.machine.proofs.Own.{value-found, mark-found}
 use Rattle.machine.proofs.Readings.{one-le, pick-le, pick-mono, lost-word}
 use Rattle.machine.proofs.Class.{Class}
-use Rattle.machine.proofs.Ordinary.{Ordinary, Fate, rewritten, kept}
+use Rattle.machine.proofs.Ordinary.{stale-most, Ordinary, Fate, rewritten, kept}
 use Rattle.machine.proofs.Rows.{row-bounds}
 use Rattle.machine.proofs.Sums.{but-change, but-others, but-most}
 use Rattle.machine.proofs.Debts.{owes-most}
@@ -34,26 +34,26 @@ module _ {W : Type 0} {a a′ : Bool} {s s′ : ℕ} {o o′ : W → ℕ} where
   due-part (goes-on k e h f) = rw e (pick-mono a s′ s (omega arith))
 
   -- A word that is in its cell is backed by the part.
-  pub due-word : (w : W) → Due a a′ s s′ o o′ → 1 ≤ s → o′ w ≤ 1 → (a ≡ false → o w ≡ 1) → pick a′ s′ 0 + o′ w ≤ pick a s 0 + o w
-  due-word w (over e) l h g = rw e (go a g)
+  pub due-word : (u : ℕ) (w : W) → Due a a′ s s′ o o′ → u ≤ s → o′ w ≤ u → (a ≡ false → o w ≡ u) → pick a′ s′ 0 + o′ w ≤ pick a s 0 + o w
+  due-word u w (over e) l h g = rw e (go a g)
     where
-      go : (x : Bool) → (x ≡ false → o w ≡ 1) → 0 + o′ w ≤ pick x s 0 + o w
+      go : (x : Bool) → (x ≡ false → o w ≡ u) → 0 + o′ w ≤ pick x s 0 + o w
       go true g = omega arith
       go false g = omega (arith, g refl)
-  due-word w (goes-on k e m f) l h g = rw e (go a g)
+  due-word u w (goes-on k e m f) l h g = rw e (go a g)
     where
-      go : (x : Bool) → (x ≡ false → o w ≡ 1) → pick x s′ 0 + o′ w ≤ pick x s 0 + o w
+      go : (x : Bool) → (x ≡ false → o w ≡ u) → pick x s′ 0 + o′ w ≤ pick x s 0 + o w
       go true g = omega (arith, f w)
       go false g = omega (arith, g refl)
 
 -- The parts of p's potential at the head and at the announcement of task t, from c to c′.
 abbrev pub HeadDue : ℕ → (c c′ : Config) → ℕ → Type 0
 HeadDue n c c′ p = Due (atHead (c .memory) p) (atHead (c′ .memory) p) (headLoad n c p) (headLoad n c′ p)
-    (λ h. one (stale (c .memory) (HeadWord h))) (λ h. one (stale (c′ .memory) (HeadWord h)))
+    (λ h. stale (c .memory) (HeadWord h)) (λ h. stale (c′ .memory) (HeadWord h))
 
 abbrev pub MarkDue : ℕ → (c c′ : Config) → (p t : ℕ) → Type 0
-MarkDue n c c′ p t = Due (inAnnouncement (c .memory) p t) (inAnnouncement (c′ .memory) p t) (1 + debts n c p t) (1 + debts n c′ p t)
-    (λ a. one (stale (c .memory) (AnnouncementWord t a))) (λ a. one (stale (c′ .memory) (AnnouncementWord t a)))
+MarkDue n c c′ p t = Due (inAnnouncement (c .memory) p t) (inAnnouncement (c′ .memory) p t) (5 * (1 + debts n c p t)) (5 * (1 + debts n c′ p t))
+    (λ a. stale (c .memory) (AnnouncementWord t a)) (λ a. stale (c′ .memory) (AnnouncementWord t a))
 
 -- Neither rises.
 pub record Less (n : ℕ) (c c′ : Config) (p : ℕ) : Type 0 where
@@ -68,17 +68,17 @@ module _ (n : ℕ) (c c′ : Config) (p : ℕ) (y : Less n c c′ p) where
   head-part = due-part (y .head)
 
   -- The compared head is backed by holding it, or by the own mark in it.
-  word : (x : Cell HeadValue) → (m .head ≡ x → atHead m p ≡ true) → headPart n c′ p + one (stale (c′ .memory) (HeadWord x)) ≤ headPart n c p + one (stale m (HeadWord x))
-  word x f = due-word x (y .head) (omega arith) (one-le (stale (c′ .memory) (HeadWord x))) (λ e. lost-word (head-dec (m .head) x) (λ z. clash (f z) e))
+  word : (x : Cell HeadValue) → (m .head ≡ x → atHead m p ≡ true) → headPart n c′ p + stale (c′ .memory) (HeadWord x) ≤ headPart n c p + stale m (HeadWord x)
+  word x f = due-word 3 x (y .head) (omega arith) (omega (arith, one-le (not (decided (head-dec (c′ .memory .head) x))))) (λ e. ap (λ k. 3 * k) (lost-word (head-dec (m .head) x) (λ z. clash (f z) e)))
 
-  linked-word : (x : Cell HeadValue) → (m .head ≡ x → inHead m p ≡ true) → headPart n c′ p + one (stale (c′ .memory) (HeadWord x)) ≤ headPart n c p + one (stale m (HeadWord x))
+  linked-word : (x : Cell HeadValue) → (m .head ≡ x → inHead m p ≡ true) → headPart n c′ p + stale (c′ .memory) (HeadWord x) ≤ headPart n c p + stale m (HeadWord x)
   linked-word x f = word x (λ z. rw (f z) refl)
 
   mark : (t : ℕ) → markPart n c′ p t ≤ markPart n c p t
   mark t = due-part (y .marks t)
 
-  marked-word : (t : ℕ) (a : Cell Content) → (m .announcement t ≡ a → inAnnouncement m p t ≡ true) → markPart n c′ p t + one (stale (c′ .memory) (AnnouncementWord t a)) ≤ markPart n c p t + one (stale m (AnnouncementWord t a))
-  marked-word t a f = due-word a (y .marks t) (omega arith) (one-le (stale (c′ .memory) (AnnouncementWord t a))) (λ e. lost-word (announcement-dec (m .announcement t) a) (λ z. clash (f z) e))
+  marked-word : (t : ℕ) (a : Cell Content) → (m .announcement t ≡ a → inAnnouncement m p t ≡ true) → markPart n c′ p t + stale (c′ .memory) (AnnouncementWord t a) ≤ markPart n c p t + stale m (AnnouncementWord t a)
+  marked-word t a f = due-word 5 a (y .marks t) (omega arith) (stale-most (c′ .memory) (AnnouncementWord t a)) (λ e. ap (λ k. 5 * k) (lost-word (announcement-dec (m .announcement t) a) (λ z. clash (f z) e)))
 
   pub lasts-no-longer : (f : Phase) → OwnSaved m p f → lasts n (headPart n c′ p) (markPart n c′ p) (c′ .memory) (row f) ≤ lasts n (headPart n c p) (markPart n c p) m (row f)
   lasts-no-longer Idle s = omega (arith, head-part)
@@ -109,15 +109,15 @@ module _ (n : ℕ) (c c′ : Config) (p : ℕ) (y : Less n c c′ p) where
 -- ---- The most that it may be
 
 module _ (n : ℕ) (c : Config) (p : ℕ) (lt : p < n) where
-  pub head-most : headLoad n c p ≤ 9 * n + 1
-  head-most = omega (arith, ranks-most n c p lt, pick-le (unanswered (c .memory) (headValue (c .memory))) 9)
+  pub head-most : headLoad n c p ≤ 39 * n
+  head-most = omega (arith, ranks-most n c p lt, pick-le (unanswered (c .memory) (headValue (c .memory))) 26)
 
-  pub mark-most : (t : ℕ) → markPart n c p t ≤ 4 * n
+  pub mark-most : (t : ℕ) → markPart n c p t ≤ 20 * n
   mark-most t =
       let F : ℕ → ℕ = (λ x. owes (c .memory) x t (row (c .task x .phase) .work)) in
-      omega (arith, pick-le (inAnnouncement (c .memory) p t) (1 + debts n c p t), but-most n p F F 4 lt (λ x. owes-most (c .memory) x t (row (c .task x .phase) .work)))
+      omega (arith, pick-le (inAnnouncement (c .memory) p t) (5 * (1 + debts n c p t)), but-most n p 4 F lt (λ x. owes-most (c .memory) x t (row (c .task x .phase) .work)))
 
-  announcement-most : (w : Work) → announcementAside n (markPart n c p) w ≤ 4 * n + 1
+  announcement-most : (w : Work) → announcementAside n (markPart n c p) w ≤ 20 * n + 5
   announcement-most Elsewhere = omega arith
   announcement-most Linking = omega arith
   announcement-most Passing = omega arith
@@ -126,17 +126,17 @@ module _ (n : ℕ) (c : Config) (p : ℕ) (lt : p < n) where
   announcement-most (Marking j) = omega (arith, mark-most j)
   announcement-most (Finishing j) = omega arith
 
-  pub answered-most : answeredPotential n c p ≤ 110 * n + 38
+  pub answered-most : answeredPotential n c p ≤ headLoad n c p + 59 * n + 28
   answered-most =
       let r = row (c .task p .phase) in
       omega (
         arith,
-        head-most,
         pick-le (atHead (c .memory) p) (headLoad n c p),
-        pick-le (linking (r .work)) (9 * n + 1),
+        pick-le (linking (r .work)) (39 * n),
         announcement-most (r .work),
-        one-le (counts (r .work) && stale (c .memory) (r .compared)),
-        row-bounds (c .task p .phase) true true .last,
+        pick-le (counts (r .work)) (stale (c .memory) (r .compared)),
+        stale-most (c .memory) (r .compared),
+        row-bounds (c .task p .phase) true true true .last,
       )
 
 -- ---- The changes of its parts
@@ -156,7 +156,7 @@ module _ (n i : ℕ) (lt : i < n) (c : Config) (m′ : Memory) (t′ : Task) (p 
       omega (
         arith,
         ranks-fall n i lt c m′ t′ o r p,
-        ap {B = ℕ} (λ (x : Bool). pick x 9 0) (unanswered-stays (c .memory) m′ (headValue (c .memory)) (o .value) (o .holder)),
+        ap {B = ℕ} (λ (x : Bool). pick x 26 0) (unanswered-stays (c .memory) m′ (headValue (c .memory)) (o .value) (o .holder)),
       )
 
   -- Seen by another task p.
@@ -181,7 +181,7 @@ module _ (n i : ℕ) (lt : i < n) (c : Config) (m′ : Memory) (t′ : Task) (p 
       → MarkDue n c c′ p t
   marks-stay t d (rewritten w f) g h = over (f p)
   marks-stay {s} t d (kept w v a f) g h =
-      goes-on (one (s .marks i t)) (a p (λ z. d (sym z)))
+      goes-on (5 * one (s .marks i t)) (a p (λ z. d (sym z)))
       (omega (arith, rw (either-no (ℕ-discrete i p) 0 (one (s .marks i t)) d) at (debts-fall t (one (s .marks i t)) (λ x k u. g x k u v (a x k)) (omega (arith, rw w at h)))))
       f
 

@@ -9,12 +9,12 @@ use Rattle.machine.specs.Memory.{Content, Empty, Op, Resp, Memory}
 use Rattle.machine.specs.Machine.{Idle, Task}
 use Rattle.machine.specs.Kind.{kind}
 use Rattle.machine.specs.Run.{Config, firstPhase, begun}
-use Rattle.machine.specs.Invariant.{inHead, content, Safe}
-use Rattle.machine.specs.Potential.{Row, row, answered, dist, owes, bound, waitingPotential, announcedPotential, potentialBy, potential}
+use Rattle.machine.specs.Invariant.{inHead, headValue, content, Safe}
+use Rattle.machine.specs.Potential.{Row, row, answered, held, dist, owes, bound, waitingPotential, announcedPotential, potentialBy, potential}
 use Rattle.machine.proofs.Update.{update-same, update-other}
 use Rattle.machine.proofs.Effect.{Unchanged}
 use Rattle.machine.proofs.Class.{class}
-use Rattle.machine.proofs.Ordinary.{unchanged, untouched}
+use Rattle.machine.proofs.Ordinary.{ordinary, unchanged, untouched}
 use Rattle.machine.proofs.Waiting.{Pays, dists-fall, waiting-stays, place-other}
 use Rattle.machine.proofs.Answered.{Less, lasts-no-longer, head-stays, marks-stay}
 use Rattle.machine.proofs.Falling.{kind-stays}
@@ -41,7 +41,7 @@ module _ (b : Object) (n j o : ℕ) (lt : j < n) (c : Config) (safe : Safe c) (i
   same = first-row (b .changing o) ∙ sym (ap row idle)
 
   rank : Pays j c m t′ (class Unchanged)
-  rank = omega (arith, ap (λ (r : Row). r .rank (inHead m j) (answered (content m j))) same)
+  rank = omega (arith, ap (λ (r : Row). r .rank (held (headValue m)) (inHead m j) (answered (content m j))) same)
 
   module _ (p : ℕ) (d : j ≢ p) where
     waiting : waitingPotential n c′ p ≤ waitingPotential n c p
@@ -50,7 +50,7 @@ module _ (b : Object) (n j o : ℕ) (lt : j < n) (c : Config) (safe : Safe c) (i
           arith,
           waiting-stays n j lt c m t′ p 0 (unchanged m j) rank
               (omega (arith, dists-fall n j lt c m t′ p 0 (omega (arith, ap (λ (r : Row). dist n p (t′ .priority) (r .work)) same))))
-              (place-other n j lt c m t′ p (unchanged m j) d),
+              (omega (arith, place-other {b = b} j c t′ p {e = Unchanged} (ordinary (unchanged m j)) d)),
         )
 
     less : Less n c c′ p

@@ -1,13 +1,14 @@
 -- The effects by what they mean to the potential: seven ordinary ones, and three stage changes (apply, hand over, clear).
 use mathlib.Core.Bool.{Bool, true, false}
-use Prim.Native.Nat.{ℕ}
+use Prim.Native.Nat.{ℕ, _+_}
 use native.Mathlib.Decide.{ℕ-discrete}
 use Rattle.machine.specs.Machine.{decided, pick}
-use Rattle.machine.specs.Potential.{always}
+use Rattle.machine.specs.Potential.{always, headWeight, announcementWeight, lostWeight}
 use Rattle.machine.proofs.Effect.{Effect, Unchanged, Linked, Released, Cleared, Retracted, Applied, LinkedAt, ReleasedAt, HandedOver, Announced}
 
--- The rank that the effect takes from its task, by whether the own mark stands in the head; 1 for a stage change; whether
--- it puts the own mark into the head; whether it marks or unmarks, and whether it rewrites, the announcement of task t.
+-- The rank that the effect takes from its task, by whether the own mark stands in the head; what a stage change may cost
+-- a task at its place: a stale word, and a lost mark in the head if it takes all marks off; whether it puts the own mark
+-- into the head; whether it marks or unmarks, and whether it rewrites, the announcement of task t.
 pub record Class : Type 0 where
   pub cost : Bool → ℕ
   pub stage : ℕ
@@ -29,12 +30,12 @@ columns c s l m w = record { cost = c; stage = s; links = l; marks = m; writes =
 
 abbrev pub class : Effect → Class
 class Unchanged = columns (always 0) 0 false nowhere nowhere
-class Linked = columns (λ marked. pick marked 0 1) 0 true nowhere nowhere
-class Released = columns (always 1) 0 false nowhere nowhere
-class Cleared = columns (always 0) 1 false nowhere nowhere
-class Retracted = columns (always 1) 0 false nowhere own
-class (Applied q j r) = columns (always 0) 1 false nowhere nowhere
-class (LinkedAt j) = columns (always 1) 0 false (at j) nowhere
-class (ReleasedAt j) = columns (always 1) 0 false (at j) nowhere
-class (HandedOver j r) = columns (always 0) 1 false nowhere (at j)
-class (Announced o) = columns (always 1) 0 false nowhere own
+class Linked = columns (λ marked. pick marked 0 headWeight) 0 true nowhere nowhere
+class Released = columns (always headWeight) 0 false nowhere nowhere
+class Cleared = columns (always 0) (headWeight + lostWeight) false nowhere nowhere
+class Retracted = columns (always announcementWeight) 0 false nowhere own
+class (Applied q j r) = columns (always 0) (headWeight + lostWeight) false nowhere nowhere
+class (LinkedAt j) = columns (always announcementWeight) 0 false (at j) nowhere
+class (ReleasedAt j) = columns (always announcementWeight) 0 false (at j) nowhere
+class (HandedOver j r) = columns (always 0) announcementWeight false nowhere (at j)
+class (Announced o) = columns (always announcementWeight) 0 false nowhere own

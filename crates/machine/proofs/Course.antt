@@ -17,6 +17,7 @@ use Rattle.machine.proofs.Branch.{Branch, stay-idle, read-only, announc
 use Rattle.machine.proofs.Own.{value-found, not-empty}
 use Rattle.machine.proofs.Readings.{one-le, decided-yes, found-word, lost-word}
 use Rattle.machine.proofs.Class.{class}
+use Rattle.machine.proofs.Ordinary.{stale-most}
 
 -- The operation is announced, and not yet retracted.
 abbrev pub Busy : Kind → Type 0
@@ -34,7 +35,7 @@ abbrev pub Falls : (n i : ℕ) (m m′ : Memory) (h h′ : ℕ) (g g′ : ℕ �
 Falls n i m m′ h h′ g g′ f f′ e = record {
   before : Busy (kind f);
   after : Busy (kind f′);
-  place : placeOf m′ i (row f′) + 1 ≤ placeOf m i (row f) + 37 * class e .stage;
+  place : placeOf m′ i (row f′) + 1 ≤ placeOf m i (row f) + class e .stage;
   last : IsResp (content m i) → lasts n h′ g′ m′ (row f′) + 1 ≤ lasts n h g m (row f);
   writes : one (class e .writes i i) ≤ class e .stage;
 }
@@ -55,25 +56,25 @@ held-own m {i} e = go (inHead m i)
     go true = refl
     go false = rw e (decided-yes (ℕ-discrete i i) refl)
 
-module _ (b : Object) (m : Memory) (i k o n : ℕ) (h h′ : ℕ) (g g′ : ℕ → ℕ) (head-most : h′ ≤ 9 * n + 1) (marks-most : (j : ℕ) → g′ j ≤ 4 * n) where
+module _ (b : Object) (m : Memory) (i k o n : ℕ) (h h′ : ℕ) (g g′ : ℕ → ℕ) (head-most : h′ ≤ 39 * n) (marks-most : (j : ℕ) → g′ j ≤ 20 * n) where
   abbrev pub Courses : Phase → Effect → Next → Type 0
   Courses f e y = Course (row f) (Falls n i m (effect i e m) h h′ g g′ f (phaseOf y) e) (kind f) e (kind (phaseOf y))
 
-  here : one (stale m (HeadWord (m .head))) ≡ 0
-  here = found-word (head-dec (m .head) (m .head)) refl
+  here : stale m (HeadWord (m .head)) ≡ 0
+  here = ap (λ k. 3 * k) (found-word (head-dec (m .head) (m .head)) refl)
 
-  there : (j : ℕ) → one (stale m (AnnouncementWord j (m .announcement j))) ≡ 0
-  there j = found-word (announcement-dec (m .announcement j) (m .announcement j)) refl
+  there : (j : ℕ) → stale m (AnnouncementWord j (m .announcement j)) ≡ 0
+  there j = ap (λ k. 5 * k) (found-word (announcement-dec (m .announcement j) (m .announcement j)) refl)
 
-  linked-there : (j : ℕ) (a : Cell Content) → m .announcement j ≡ a → one (stale (effect i (LinkedAt j) m) (AnnouncementWord j (linked i a))) ≡ 0
-  linked-there j a e = found-word (announcement-dec _ (linked i a)) (update-same (m .announcement) j (linked i (m .announcement j)) ∙ ap (linked i) e)
+  linked-there : (j : ℕ) (a : Cell Content) → m .announcement j ≡ a → stale (effect i (LinkedAt j) m) (AnnouncementWord j (linked i a)) ≡ 0
+  linked-there j a e = ap (λ k. 5 * k) (found-word (announcement-dec _ (linked i a)) (update-same (m .announcement) j (linked i (m .announcement j)) ∙ ap (linked i) e))
 
   -- A task that links the head to leave it holds it already.
-  kept-exit : {x : Cell HeadValue} → h′ ≤ h + pick (true && not (atHead m i)) (9 * n + 1) 0 → m .head ≡ x → HeldBy i x → h′ ≤ h
+  kept-exit : {x : Cell HeadValue} → h′ ≤ h + pick (true && not (atHead m i)) (39 * n) 0 → m .head ≡ x → HeldBy i x → h′ ≤ h
   kept-exit l e (q, r, f) = let y : h′ ≤ h + 0 = rw (held-own m (value-found e ∙ f)) at l in omega arith
 
   pub course : {f : Phase} {e : Effect} {y : Next} → Branch b m i k o f e y → TaskSafe m i o f
-      → h′ ≤ h + pick (class e .links && not (atHead m i)) (9 * n + 1) 0
+      → h′ ≤ h + pick (class e .links && not (atHead m i)) (39 * n) 0
       → (e ≡ Unchanged → (j : ℕ) → g′ j ≤ g j) → Courses f e y
   course stay-idle s l u = rests
   course read-only s l u = reads
@@ -99,14 +100,14 @@ module _ (b : Object) (m : Memory) (i k o n : ℕ) (h h′ : ℕ) (g g′ : ℕ 
   course (link-helped-fails {j = j} {a = a} e) s l u = works (omega (arith, lost-word (announcement-dec (m .announcement j) a) e))
   course (validate {j = j} e) s l u = works (omega (arith, u refl j))
   course (validate-fails {j = j} e) s l u = works (omega (arith, u refl j))
-  course (hand-over {h = x} {j = j} e) s l u = works (omega (arith, one-le (stale m (HeadWord x)), one-le (decided (ℕ-discrete j i))))
+  course (hand-over {h = x} {j = j} e) s l u = works (omega (arith, stale-most m (HeadWord x), one-le (decided (ℕ-discrete j i))))
   course (hand-over-fails {j = j} {a = a} e) s l u = works (omega (arith, u refl j, lost-word (announcement-dec (m .announcement j) a) e))
   course (reload-hand-over {j = j} e) s l u = works (omega (arith, u refl j, there j))
-  course (reload-hand-over-lost {h = x} e) s l u = works (omega (arith, one-le (stale m (HeadWord x))))
-  course (release {h = x} e) s l u = works (omega (arith, one-le (stale m (HeadWord x))))
+  course (reload-hand-over-lost {h = x} e) s l u = works (omega (arith, stale-most m (HeadWord x)))
+  course (release {h = x} e) s l u = works (omega (arith, stale-most m (HeadWord x)))
   course (release-fails {j = j} {a = a} e) s l u = works (omega (arith, u refl j, lost-word (announcement-dec (m .announcement j) a) e))
   course (reload-release {j = j} e) s l u = works (omega (arith, u refl j, there j))
-  course (reload-release-lost {h = x} e) s l u = works (omega (arith, one-le (stale m (HeadWord x))))
+  course (reload-release-lost {h = x} e) s l u = works (omega (arith, stale-most m (HeadWord x)))
   course (clear e) s l u = works (omega arith)
   course (clear-fails {h = x} e) s l u = works (omega (arith, lost-word (head-dec (m .head) x) e))
   course (reload-clear e) s l u = works (omega (arith, here))

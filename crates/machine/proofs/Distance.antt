@@ -46,10 +46,10 @@ module _ (n p k : ℕ) where
       go (yes e) = rw (waiting-not (content m p) (rw e at f)) (omega arith)
       go (no d) = omega arith
 
-  pub gap-most : p < n → gap n p k ≤ n
+  gap-most : p < n → gap n p k + 1 ≤ n
   gap-most h = go (decLe k p)
     where
-      go : (d : Dec (k ≤ p)) → either d (p - k) (p + n - k) ≤ n
+      go : (d : Dec (k ≤ p)) → either d (p - k) (p + n - k) + 1 ≤ n
       go (yes e) = omega arith
       go (no d) = omega arith
 
@@ -58,6 +58,14 @@ module _ (n p k : ℕ) where
     where
       go : (d : Dec (k ≡ p)) → either d (pick (skips p w) n 0) (gap n p k) ≤ n
       go (yes e) = pick-le (skips p w) n
+      go (no d) = omega (arith, gap-most h)
+
+  -- While the task doesn't skip p.
+  pub dist-below : p < n → dist n p k Elsewhere + 1 ≤ n
+  dist-below h = go (ℕ-discrete k p)
+    where
+      go : (d : Dec (k ≡ p)) → either d 0 (gap n p k) + 1 ≤ n
+      go (yes e) = omega arith
       go (no d) = gap-most h
 
 gap-up : (n p k : ℕ) → k ≤ p → gap n p k ≡ p - k

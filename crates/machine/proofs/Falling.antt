@@ -6,14 +6,14 @@ use Prim.Native.Nat.{ℕ, _+_, _*_, _≤_, _<_}
 use native.Mathlib.Decide.{ℕ-discrete}
 use native.Mathlib.Omega.{arith}
 use Rattle.machine.specs.Object.{Object}
-use Rattle.machine.specs.Memory.{Content, Empty, Op, Resp, Memory}
+use Rattle.machine.specs.Memory.{Free, Held, Content, Empty, Op, Resp, Memory, stateOf}
 use Rattle.machine.specs.Machine.{Task, Next, phaseOf, turns, advance, pick}
 use Rattle.machine.specs.Kind.{Kind, Off, Reading, Opening, Looping, Exiting, Retracting, kind}
 use Rattle.machine.specs.Run.{Config}
 use Rattle.machine.specs.Invariant.{inHead, headValue, content, IsResp, OwnContent, Safe}
-use Rattle.machine.specs.Potential.{row, one, answered, holds, dists, placeOf, waitingPotential, atHead, headLoad, headPart, markPart, lasts, answeredPotential, announcedPotential, potentialBy, potential}
-use Rattle.machine.proofs.Update.{clash, update-same, update-other}
-use Rattle.machine.proofs.Effect.{Effect, Cleared, Applied, HandedOver, Announced, effect, Allowed}
+use Rattle.machine.specs.Potential.{row, one, answered, held, holds, dists, placeOf, waitingPotential, atHead, headLoad, headPart, markPart, lasts, answeredPotential, announcedPotential, potentialBy, potential}
+use Rattle.machine.proofs.Update.{clash, update-same, update-other, either-yes}
+use Rattle.machine.proofs.Effect.{Effect, Applied, HandedOver, Announced, effect, Allowed}
 use Rattle.machine.proofs.Moved.{moved, Steps}
 use Rattle.machine.proofs.Rely.{relies}
 use Rattle.machine.proofs.Own.{allowed, value-found, is-response, not-empty}
@@ -21,12 +21,13 @@ use Rattle.machine.proofs.Readings.{pick-le, one-le}
 use Rattle.machine.proofs.Class.{class}
 use Rattle.machine.proofs.Ordinary.{Ordinary, Sort, ordinary, clears, applies, hands-over, sort, elsewhere, Fate, rewritten, kept, fate}
 use Rattle.machine.proofs.Rows.{extras}
+use Rattle.machine.proofs.Sums.{but-at-most}
 use Rattle.machine.proofs.Debts.{other-owes}
 use Rattle.machine.proofs.Seen.{Seen, seen}
 use Rattle.machine.proofs.Course.{Busy, Falls, Course, rests, reads, opens, works, ends, course}
-use Rattle.machine.proofs.Waiting.{Pays, share, dists-fall, stages-clear, stages-apply, stages-hand-over, waiting-stays, place-other, waiting-falls, waiting-most}
+use Rattle.machine.proofs.Waiting.{Pays, share, dists-fall, stages-clear, stages-apply, stages-hand-over, waiting-stays, place-other, waiting-most}
 use Rattle.machine.proofs.Answered.{due-part, HeadDue, Less, lasts-no-longer, head-most, mark-most, answered-most, load-stays, head-stays, marks-stay, mark-same}
-use Rattle.machine.proofs.Stage.{clear-keeps-turn, hand-over-keeps-turn, apply-turns, clear-head, apply-head, hand-over-head}
+use Rattle.machine.proofs.Stage.{clear-keeps-turn, hand-over-keeps-turn, apply-rank, clear-rank, announces-polls, apply-turns, ranks-unmarked, clear-head, apply-head, rank-rises, hand-over-load, hand-over-head}
 
 false-of : (x : Bool) → one x ≤ 0 → x ≡ false
 false-of true h = absurd (omega arith)
@@ -84,7 +85,7 @@ module _ (b : Object) (n i : ℕ) (lt : i < n) (c : Config) (safe : Safe c) (bel
   may v = allowed b m i (c .task i .priority) (c .task i .operation) (safe .holder) v (safe .each i)
 
   sees : {e : Effect} {y : Next} → Steps b i c e y → (p t : ℕ) → Seen m (effect i e m) i (c .task i .priority) n p t (row (c .task i .phase)) (row (phaseOf y)) e y
-  sees v p t = seen b m i (c .task i .priority) (c .task i .operation) n p t (extras (inHead m i) (answered (content m i))) v (safe .each i) (may v)
+  sees v p t = seen b m i (c .task i .priority) (c .task i .operation) n p t (extras (held (headValue m)) (inHead m i) (answered (content m i))) v (safe .each i) (may v)
 
   -- The rank pays for an ordinary effect.
   paid : {e : Effect} {y : Next} → Steps b i c e y → Ordinary m (effect i e m) i (class e)
@@ -100,33 +101,41 @@ module _ (b : Object) (n i : ℕ) (lt : i < n) (c : Config) (safe : Safe c) (bel
   module _ (p : ℕ) (below-p : p < n) {x : ℕ} (f : content m p ≡ Op x) (k : ℕ) (one-step : k ≤ 1) where
     -- It goes on waiting, with k more of its place behind it, or the stage changes, or it has its response.
     waits : {e : Effect} {y : Next} → Steps b i c e y → Sort b m i e
-        → (Ordinary m (effect i e m) i (class e) → (content (effect i e m) p ≡ content m p) × (placeOf (effect i e m) p (row (after e y .task p .phase)) + k ≤ placeOf m p (row (c .task p .phase)) + 5 * share i c (class e) p))
+        → (Ordinary m (effect i e m) i (class e) → content (effect i e m) p ≡ content m p)
+        → placeOf (effect i e m) p (row (after e y .task p .phase)) + k ≤ placeOf m p (row (c .task p .phase)) + share i c (class e) p + class e .stage
         → announcedPotential n (after e y) p (content (effect i e m) p) + k ≤ waitingPotential n c p
-    waits {e} {y} v (ordinary o) g =
-        rw (g o .0 ∙ f) (waiting-stays n i lt c (effect i e m) (advance n (c .task i) y) p k o (paid v o) (nearer v p f (false-of (turns y) (omega (arith, sees v 0 0 .turn, o .stage)))) (g o .1))
-    waits {y = y} v (clears a) g =
+    waits {e} {y} v (ordinary o) g l =
+        rw (g o ∙ f) (waiting-stays n i lt c (effect i e m) (advance n (c .task i) y) p k o (paid v o) (nearer v p f (false-of (turns y) (omega (arith, sees v 0 0 .turn, o .stage)))) (omega (arith, l, o .stage)))
+    waits {y = y} v (clears a) g l =
         rw f (omega (
           arith,
-          waiting-falls n i lt c (effect i Cleared m) (advance n (c .task i) y) p below-p
-              (stages-clear b m i p x _ _ f a (nearer v p f (clear-keeps-turn v))),
+          l,
+          but-at-most p i 0,
+          ranks-unmarked n i c p (Free (stateOf (headValue m))) (advance n (c .task i) y) true below-p (ap held (a .3)) refl (clear-rank v (safe .each i .own)),
+          stages-clear b n m i p x _ _ f a (nearer v p f (clear-keeps-turn v)),
         ))
-    waits {y = y} v (applies {q = q} {j = j} {r = r} a) g =
+    waits {y = y} v (applies {q = q} {j = j} {r = r} a) g l =
         rw f (omega (
           arith,
-          waiting-falls n i lt c (effect i (Applied q j r) m) (advance n (c .task i) y) p below-p
-              (stages-apply b m i p x _ _ f q j r a (λ d. dists-fall n i lt c (effect i (Applied q j r) m) (advance n (c .task i) y) p 1 (apply-turns n p (c .task i) v below-p below d))),
+          l,
+          but-at-most p i 0,
+          ranks-unmarked n i c p (Held q j r) (advance n (c .task i) y) false below-p (ap held (a .2)) refl (apply-rank v),
+          stages-apply b n m i p x _ _ f q j r a (λ d. dists-fall n i lt c (effect i (Applied q j r) m) (advance n (c .task i) y) p 1 (apply-turns n p (c .task i) v below-p below d)),
         ))
-    waits {y = y} v (hands-over {j = j} {r = r} a) g = go (ℕ-discrete j p)
+    waits {y = y} v (hands-over {j = j} {r = r} a) g l = go (ℕ-discrete j p)
       where
         go : Dec (j ≡ p) → announcedPotential n (after (HandedOver j r) y) p (content (effect i (HandedOver j r) m) p) + k ≤ waitingPotential n c p
         go (yes z) =
             let u : content (effect i (HandedOver j r) m) p ≡ Resp r = rw (← z) (value-found (update-same (m .announcement) j _)) in
-            rw u (omega (arith, answered-most n (after (HandedOver j r) y) p below-p))
+            rw u (omega (arith, answered-most n (after (HandedOver j r) y) p below-p, hand-over-load b n i c p v a, either-yes {A = ℕ} (ℕ-discrete j p) 0 26 z))
         go (no d) =
             rw (elsewhere m i j p _ d, f) (omega (
               arith,
-              waiting-falls n i lt c (effect i (HandedOver j r) m) (advance n (c .task i) y) p below-p
-                  (stages-hand-over b m i p x _ _ f j r a d (nearer v p f (hand-over-keeps-turn v))),
+              l,
+              but-at-most p i 0,
+              rank-rises b n i c p v a,
+              but-at-most p j 26,
+              stages-hand-over b n m i p x _ _ f j r a d (nearer v p f (hand-over-keeps-turn v)),
             ))
 
   -- ---- Another task p with its response
@@ -153,7 +162,7 @@ module _ (b : Object) (n i : ℕ) (lt : i < n) (c : Config) (safe : Safe c) (bel
       → announcedPotential n (after e y) p (content (effect i e m) p) ≤ announcedPotential n c p a
   other-announced v p d h Empty f z = absurd (z refl)
   other-announced {e} {y} v p d h (Op x) f z =
-      omega (arith, waits p h f 0 (omega arith) v (sort b m i e (may v)) (λ o. (o .contents p (λ z. d (sym z)), place-other n i lt c (effect i e m) (advance n (c .task i) y) p o d)))
+      omega (arith, waits p h f 0 (omega arith) v (sort b m i e (may v)) (λ o. o .contents p (λ z. d (sym z))) (place-other i c (advance n (c .task i) y) p (sort b m i e (may v)) d))
   other-announced {e} v p d h (Resp r) f z =
       let u : content (effect i e m) p ≡ Resp r = rw f at (relies b m (λ z. d (sym z)) e (may v) .own) in
       rw u (answers p d (is-response f) v)
@@ -181,16 +190,16 @@ module _ (b : Object) (n i : ℕ) (lt : i < n) (c : Config) (safe : Safe c) (bel
   own-answered {r = r} (hands-over {j = j} a) h f = elsewhere m i j i _ (λ z. (let u : content m i ≡ Op (a .1) = rw (← z) (a .3) in let w : _≡_ {A = ℕ} 0 1 = cc in omega arith)) ∙ f
 
   -- Its part of the head becomes due by a link alone.
-  own-head : {e : Effect} {y : Next} → Steps b i c e y → Sort b m i e → IsResp (content m i) → headPart n (after e y) i ≤ headPart n c i + pick (class e .links && not (atHead m i)) (9 * n + 1) 0
+  own-head : {e : Effect} {y : Next} → Steps b i c e y → Sort b m i e → IsResp (content m i) → headPart n (after e y) i ≤ headPart n c i + pick (class e .links && not (atHead m i)) (39 * n) 0
   own-head {e} {y} v (ordinary o) r =
-      own-due (atHead m i) (atHead (effect i e m) i) (class e .links) _ _ (9 * n + 1)
+      own-due (atHead m i) (atHead (effect i e m) i) (class e .links) _ _ (39 * n)
       (omega (arith, load-stays n i lt c (effect i e m) (advance n (c .task i) y) i o (paid v o))) (head-most n (after e y) i lt)
       (rw (o .value) (or-one (inHead m i) (inHead (effect i e m) i) (holds i (headValue m)) (one (class e .links)) (o .own)))
   own-head {y = y} v (clears a) r = omega (arith, due-part (clear-head b n i c i y))
   own-head {y = y} v (applies a) r = omega (arith, due-part (apply-head b n i c i y r a))
   own-head v (hands-over a) r = omega (arith, due-part (hand-over-head b n i c i v a))
 
-  own-course : {e : Effect} {y : Next} (v : Steps b i c e y) (h h′ : ℕ) → h′ ≤ 9 * n + 1 → h′ ≤ h + pick (class e .links && not (atHead m i)) (9 * n + 1) 0
+  own-course : {e : Effect} {y : Next} (v : Steps b i c e y) (h h′ : ℕ) → h′ ≤ 39 * n → h′ ≤ h + pick (class e .links && not (atHead m i)) (39 * n) 0
       → Course (row (c .task i .phase)) (Falls n i m (effect i e m) h h′ (markPart n c i) (markPart n (after e y) i) (c .task i .phase) (phaseOf y) e) (kind (c .task i .phase)) e (kind (phaseOf y))
   own-course {e} {y} v h h′ most l =
       course b m i (c .task i .priority) (c .task i .operation) n h h′ (markPart n c i) (markPart n (after e y) i) most (mark-most n (after e y) i lt) v (safe .each i) l
@@ -204,7 +213,7 @@ module _ (b : Object) (n i : ℕ) (lt : i < n) (c : Config) (safe : Safe c) (bel
   own-by v reads z g = omega arith
   own-by {y = y} v (opens {o = o}) z g =
       let u : content (effect i (Announced o) m) i ≡ Op o = value-found (update-same (m .announcement) i _) in
-      rw u (waiting-most n (after (Announced o) y) i lt)
+      rw u (waiting-most n (after (Announced o) y) i lt (ap (λ (t : Task). t .phase) (update-same (c .task) i (advance n (c .task i) y)) ∙ announces-polls v))
   own-by {k} {k′} {e} {y} v (works F) z g =
       omega (arith, busy-potential n (after e y) i (content (effect i e m) i) k′ (g F .1), busy-potential n c i (content m i) k (g F .0), g F .2)
   own-by v (ends h) z g = let u : content m i ≡ Resp (may v .0) = may v .1 in rw u (omega arith)
@@ -224,7 +233,7 @@ module _ (b : Object) (n i : ℕ) (lt : i < n) (c : Config) (safe : Safe c) (bel
           (λ F. (
             F .before,
             F .after,
-            omega (arith, ap (announcedPotential n c i) f, waits i lt f 1 (omega arith) v (sort b m i e (may v)) (λ o. (own-stays e o (F .writes), rw mine (omega (arith, F .place, o .stage))))),
+            omega (arith, ap (announcedPotential n c i) f, waits i lt f 1 (omega arith) v (sort b m i e (may v)) (λ o. own-stays e o (F .writes)) (rw mine (omega (arith, F .place)))),
           ))
       go (Resp r) f =
           own-by v (own-course v (headPart n c i) (headPart n (after e y) i)

@@ -1,21 +1,34 @@
 -- What a step leaves to everybody else: an ordinary effect, the three stage changes, and the fate of an announcement.
 use mathlib.Core.Path.{_≡_, refl, sym, _∙_, ap}
-use mathlib.Core.Bool.{Bool, true, false}
+use mathlib.Core.Bool.{Bool, true, false, not}
 use mathlib.Core.Logic.{_≢_}
-use Prim.Native.Nat.{ℕ, _+_, _≤_}
+use Prim.Native.Nat.{ℕ, _+_, _*_, _≤_}
 use native.Mathlib.Decide.{ℕ-discrete}
 use native.Mathlib.Omega.{arith}
 use Rattle.machine.specs.Marks.{has, add, has-none, has-add-other, has-remove, has-remove-other, add-has}
 use Rattle.machine.specs.Object.{Object}
-use Rattle.machine.specs.Memory.{HeadValue, Held, Content, Empty, Op, Resp, Cell, Memory, unmarked}
+use Rattle.machine.specs.Memory.{HeadValue, Held, Content, Empty, Op, Resp, Cell, Memory, unmarked, head-dec, announcement-dec}
 use Rattle.machine.specs.Machine.{decided, pick, linked, released}
 use Rattle.machine.specs.Invariant.{inHead, inAnnouncement, headValue, content, NotHolder}
-use Rattle.machine.specs.Potential.{Compared, AnnouncementWord, one, stale}
+use Rattle.machine.specs.Potential.{Compared, NoWord, HeadWord, AnnouncementWord, one, stale}
 use Rattle.machine.proofs.Update.{update-all, update-same, update-other}
 use Rattle.machine.proofs.Effect.{Effect, Unchanged, Linked, Released, Cleared, Retracted, Applied, LinkedAt, ReleasedAt, HandedOver, Announced, effect, withHead, withAnnouncement, Allowed}
 use Rattle.machine.proofs.Own.{value-found}
 use Rattle.machine.proofs.Readings.{one-le}
 use Rattle.machine.proofs.Class.{Class, class}
+
+-- ---- Stale words
+
+pub stale-most : (m : Memory) (w : Compared) → stale m w ≤ 5
+stale-most m NoWord = omega arith
+stale-most m (HeadWord h) = omega (arith, one-le (not (decided (head-dec (m .head) h))))
+stale-most m (AnnouncementWord j a) = omega (arith, one-le (not (decided (announcement-dec (m .announcement j) a))))
+
+-- Another head.
+pub head-words : (m : Memory) (x : Cell HeadValue) (w : Compared) → stale (withHead m x) w ≤ stale m w + 3
+head-words m x NoWord = omega arith
+head-words m x (HeadWord h) = omega (arith, one-le (not (decided (head-dec x h))))
+head-words m x (AnnouncementWord j a) = omega arith
 
 -- ---- Ordinary effects
 
@@ -31,12 +44,12 @@ pub record Ordinary (m m′ : Memory) (i : ℕ) (k : Class) : Type 0 where
   pub contents : (x : ℕ) → x ≢ i → content m′ x ≡ content m x
   pub holder : (q j r : ℕ) → headValue m ≡ Held q j r → content m′ j ≡ content m j
   -- A compared word goes stale at a cost alone.
-  pub words : (w : Compared) → one (stale m′ w) ≤ one (stale m w) + k .cost (inHead m i)
+  pub words : (w : Compared) → stale m′ w ≤ stale m w + k .cost (inHead m i)
 
 module _ (m : Memory) (i : ℕ) where
   -- Other marks in the head.
   head-ordinary : (v : ℕ) (k : Class) → k .stage ≡ 0 → ((x : ℕ) → x ≢ i → has x v ≡ inHead m x) → one (has i v) ≤ one (inHead m i) + one (k .links)
-      → ((w : Compared) → one (stale (withHead m (record { value = headValue m; marks = v })) w) ≤ one (stale m w) + k .cost (inHead m i))
+      → ((w : Compared) → stale (withHead m (record { value = headValue m; marks = v })) w ≤ stale m w + k .cost (inHead m i))
       → Ordinary m (withHead m (record { value = headValue m; marks = v })) i k
   head-ordinary v k s f o w = record {
     stage = s;
@@ -52,14 +65,14 @@ module _ (m : Memory) (i : ℕ) where
   unchanged = head-ordinary (m .head .marks) (class Unchanged) refl (λ _ _. refl) (omega arith) (λ _. omega arith)
 
   -- A mark that stands already changes nothing.
-  link-words : (w : Compared) (c : Bool) → inHead m i ≡ c → one (stale (effect i Linked m) w) ≤ one (stale m w) + pick c 0 1
+  link-words : (w : Compared) (c : Bool) → inHead m i ≡ c → stale (effect i Linked m) w ≤ stale m w + pick c 0 3
   link-words w true e =
       let z : effect i Linked m ≡ m = (λ t. record { head = record { value = headValue m; marks = add-has i (m .head .marks) e t }; announcement = m .announcement }) in
       rw z (omega arith)
-  link-words w false e = omega (arith, one-le (stale (effect i Linked m) w))
+  link-words w false e = head-words m _ w
 
   -- An announcement that keeps its content, or the own one of a task that doesn't hold the head.
-  announcement-ordinary : (j : ℕ) (a : Cell Content) (k : Class) → k .stage ≡ 0 → k .cost (inHead m i) ≡ 1
+  announcement-ordinary : (j : ℕ) (a : Cell Content) (k : Class) → k .stage ≡ 0 → k .cost (inHead m i) ≡ 5
       → ((x : ℕ) → x ≢ i → content (withAnnouncement m j a) x ≡ content m x)
       → ((q t r : ℕ) → headValue m ≡ Held q t r → content (withAnnouncement m j a) t ≡ content m t)
       → Ordinary m (withAnnouncement m j a) i k
@@ -70,19 +83,19 @@ module _ (m : Memory) (i : ℕ) where
     own = omega arith;
     contents = f;
     holder = g;
-    words = λ w. omega (arith, one-le (stale (withAnnouncement m j a) w));
+    words = λ w. omega (arith, stale-most (withAnnouncement m j a) w);
   }
 
   pub remarked : (j v x : ℕ) → content (withAnnouncement m j (record { value = content m j; marks = v })) x ≡ content m x
   remarked j v x = update-all (m .announcement) j _ (λ t (a : Cell Content). a .value ≡ content m t) refl (λ t _. refl) x
 
-  remarked-ordinary : (j v : ℕ) (k : Class) → k .stage ≡ 0 → k .cost (inHead m i) ≡ 1 → Ordinary m (withAnnouncement m j (record { value = content m j; marks = v })) i k
+  remarked-ordinary : (j v : ℕ) (k : Class) → k .stage ≡ 0 → k .cost (inHead m i) ≡ 5 → Ordinary m (withAnnouncement m j (record { value = content m j; marks = v })) i k
   remarked-ordinary j v k s e = announcement-ordinary j _ k s e (λ x _. remarked j v x) (λ _ t _ _. remarked j v t)
 
   pub elsewhere : (j x : ℕ) (a : Cell Content) → j ≢ x → content (withAnnouncement m j a) x ≡ content m x
   elsewhere j x a d = value-found (update-other (m .announcement) j a x d)
 
-  own-ordinary : (a : Content) (k : Class) → k .stage ≡ 0 → k .cost (inHead m i) ≡ 1 → NotHolder (headValue m) i → Ordinary m (withAnnouncement m i (unmarked a)) i k
+  own-ordinary : (a : Content) (k : Class) → k .stage ≡ 0 → k .cost (inHead m i) ≡ 5 → NotHolder (headValue m) i → Ordinary m (withAnnouncement m i (unmarked a)) i k
   own-ordinary a k s e h = announcement-ordinary i _ k s e (λ x d. elsewhere i x _ (λ z. d (sym z))) (λ q t r z. elsewhere i t _ (λ y. h q r (rw y z)))
 
 -- Every effect is ordinary or a stage change.
@@ -95,7 +108,7 @@ pub data Sort (b : Object) (m : Memory) (i : ℕ) : Effect → Type 0 where
 pub sort : (b : Object) (m : Memory) (i : ℕ) (e : Effect) → Allowed b m i e → Sort b m i e
 sort b m i Unchanged a = ordinary (unchanged m i)
 sort b m i Linked a = ordinary (head-ordinary m i _ (class Linked) refl (λ x d. has-add-other x i _ d) (omega (arith, one-le (has i (add i (m .head .marks))))) (λ w. link-words m i w (inHead m i) refl))
-sort b m i Released a = ordinary (head-ordinary m i _ (class Released) refl (λ x d. has-remove-other x i _ d) (rw (has-remove i (m .head .marks)) (omega arith)) (λ w. omega (arith, one-le (stale (effect i Released m) w))))
+sort b m i Released a = ordinary (head-ordinary m i _ (class Released) refl (λ x d. has-remove-other x i _ d) (rw (has-remove i (m .head .marks)) (omega arith)) (head-words m _))
 sort b m i Cleared a = clears a
 sort b m i Retracted a = ordinary (own-ordinary m i Empty (class Retracted) refl refl (a .2))
 sort b m i (Applied q j r) a = applies a
@@ -111,7 +124,7 @@ sort b m i (Announced o) a = ordinary (own-ordinary m i (Op o) (class (Announced
 pub data Fate (m m′ : Memory) (i t : ℕ) (k : Class) : Type 0 where
   rewritten : k .writes i t ≡ true → ((x : ℕ) → inAnnouncement m′ x t ≡ false) → Fate m m′ i t k
   kept : k .writes i t ≡ false → content m′ t ≡ content m t → ((x : ℕ) → x ≢ i → inAnnouncement m′ x t ≡ inAnnouncement m x t)
-      → ((a : Cell Content) → one (stale m′ (AnnouncementWord t a)) ≤ one (stale m (AnnouncementWord t a)) + one (k .marks i t))
+      → ((a : Cell Content) → stale m′ (AnnouncementWord t a) ≤ stale m (AnnouncementWord t a) + 5 * one (k .marks i t))
       → Fate m m′ i t k
 
 module _ (m : Memory) (i t : ℕ) where
@@ -123,8 +136,8 @@ module _ (m : Memory) (i t : ℕ) where
         → Fate m (withAnnouncement m j (record { value = content m j; marks = v })) i t k
     marked-fate v f w e = kept w (remarked m i j v t) (λ x d. update-all (m .announcement) j _ (λ t (a : Cell Content). has x (a .marks) ≡ inAnnouncement m x t) (f x d) (λ _ _. refl) t) (λ a. rw e (words a (ℕ-discrete j t)))
       where
-        words : (a : Cell Content) (d : Dec (j ≡ t)) → one (stale (withAnnouncement m j (record { value = content m j; marks = v })) (AnnouncementWord t a)) ≤ one (stale m (AnnouncementWord t a)) + one (decided d)
-        words a (yes e) = omega (arith, one-le (stale (withAnnouncement m j (record { value = content m j; marks = v })) (AnnouncementWord t a)))
+        words : (a : Cell Content) (d : Dec (j ≡ t)) → stale (withAnnouncement m j (record { value = content m j; marks = v })) (AnnouncementWord t a) ≤ stale m (AnnouncementWord t a) + 5 * one (decided d)
+        words a (yes e) = omega (arith, stale-most (withAnnouncement m j (record { value = content m j; marks = v })) (AnnouncementWord t a))
         words a (no d) = rw (update-other (m .announcement) j (record { value = content m j; marks = v }) t d) (omega arith)
 
     written-fate : (a : Content) → k .writes i t ≡ decided (ℕ-discrete j t) → Fate m (withAnnouncement m j (unmarked a)) i t k

@@ -1,42 +1,54 @@
 -- Bounds of the columns of the phases.
-use mathlib.Core.Bool.{Bool, true, false, _&&_, not}
-use Prim.Native.Nat.{ℕ, _+_, _≤_}
+use mathlib.Core.Bool.{Bool, true, false, not}
+use Prim.Native.Nat.{_+_, _≤_}
 use native.Mathlib.Omega.{arith}
-use Rattle.machine.specs.Memory.{Memory}
 use Rattle.machine.specs.Machine.{Phase, Idle, ReadOnly, Announce, Poll, LoadHead, LinkHead, LoadPriority, LoadOwn, Apply, ReloadApply, LoadHelped, LinkHelped, Validate, HandOver, ReloadHandOver, Release, ReloadRelease, ClearHead, ReloadClear, LoadExit, LinkExit, ClearExit, ReleaseExit, Retract, pick}
-use Rattle.machine.specs.Invariant.{inHead}
-use Rattle.machine.specs.Potential.{extra, polling, Row, row, stale, placeOf}
-use Rattle.machine.proofs.Readings.{one-le}
+use Rattle.machine.specs.Potential.{helping, extra, looping, Row, row}
 
--- What is to be known of the part of a rank that goes by the own mark in the head and by the own response.
-pub record Extra (marked answered : Bool) : Type 0 where
-  pub before : extra answered marked false ≤ extra answered marked true
-  pub most : extra answered marked true ≤ 7
+-- What is to be known of the part of a rank that goes by the head, by the own mark in it and by the own response.
+pub record Extra (held marked answered : Bool) : Type 0 where
+  pub before : extra held answered marked false ≤ extra held answered marked true
+  pub most : extra held answered marked true ≤ 29
   -- Polling and linking.
-  pub polls : polling marked answered ≤ 2 + extra answered marked false
-  pub links : extra answered true true + pick marked 0 1 ≤ extra answered marked false
-  pub links-exit : extra answered true false + pick marked 0 1 ≤ extra answered marked false
+  pub helps : helping held ≤ pick answered 10 (helping held)
+  pub loops : pick answered 0 (helping held) ≤ pick answered 10 (helping held)
+  pub twice : pick answered 10 (helping held) ≤ 10
+  pub links : extra held answered true true + pick marked 0 3 ≤ extra held answered marked false
+  pub links-exit : extra held answered true false + pick marked 0 3 ≤ extra held answered marked false
   -- The mark is lost, and the task polls.
-  pub lost : polling false answered ≤ extra answered false true
+  pub lost : looping 0 held false answered ≤ extra held answered false true
   -- Announcing and leaving.
-  pub announces : extra false marked false ≤ 1
-  pub leaves : 6 ≤ extra true marked false
+  pub announces : extra held false marked false ≤ 3
+  pub leaves : 16 + helping held ≤ extra held true marked false
+  -- Another head without marks, and the own response.
+  pub renews : helping (not held) ≤ helping held + pick held 3 13
+  pub renews-before : extra (not held) answered false false ≤ extra held answered marked false + pick held 3 13
+  pub renews-past : extra (not held) answered false true ≤ extra held answered marked true + pick held 3 13
+  pub renews-loop : looping 10 (not held) false answered ≤ looping 10 held marked answered + pick held 3 13
+  pub renews-poll : looping 0 (not held) false answered ≤ looping 0 held marked answered + pick held 3 13
+  pub served-past : extra held true marked true ≤ extra held answered marked true + 26
+  pub served-loop : looping 10 held marked true ≤ looping 10 held marked answered + 26
 
-pub extras : (marked answered : Bool) → Extra marked answered
-extras true true = omega arith
-extras true false = omega arith
-extras false true = omega arith
-extras false false = omega arith
+pub extras : (held marked answered : Bool) → Extra held marked answered
+extras true true true = omega arith
+extras true true false = omega arith
+extras true false true = omega arith
+extras true false false = omega arith
+extras false true true = omega arith
+extras false true false = omega arith
+extras false false true = omega arith
+extras false false false = omega arith
 
-pub record Bounds (r : Row) (marked answered : Bool) : Type 0 where
-  pub rank : r .rank marked answered ≤ 9
-  pub place : r .position false ≤ 19
+pub record Bounds (r : Row) (held marked answered : Bool) : Type 0 where
+  pub rank : r .rank held marked answered ≤ 39
+  pub unmarked : r .rank (not held) false answered ≤ r .rank held marked answered + pick held 3 13
+  pub served : r .rank held marked true ≤ r .rank held marked answered + 26
   pub last : r .position true ≤ 18
 
-pub row-bounds : (f : Phase) (h a : Bool) → Bounds (row f) h a
-row-bounds f h a = go f (extras h a)
+pub row-bounds : (f : Phase) (w h a : Bool) → Bounds (row f) w h a
+row-bounds f w h a = go f (extras w h a)
   where
-    go : (f : Phase) → Extra h a → Bounds (row f) h a
+    go : (f : Phase) → Extra w h a → Bounds (row f) w h a
     go Idle x = omega arith
     go ReadOnly x = omega arith
     go Announce x = omega arith
@@ -61,7 +73,3 @@ row-bounds f h a = go f (extras h a)
     go (ClearExit g v) x = omega arith
     go (ReleaseExit g v) x = omega arith
     go (Retract v) x = omega arith
-
-pub place-most : (m : Memory) (i : ℕ) (f : Phase) → placeOf m i (row f) ≤ 37
-place-most m i f =
-    omega (arith, row-bounds f true true .place, one-le (stale m (row f .compared)), one-le (row f .linked && not (inHead m i)))

@@ -10,7 +10,7 @@ use Rattle.machine.specs.Object.{Object}
 use Rattle.machine.specs.Memory.{Content, Empty, Op, Resp, Cell, Memory, unmarked, outcomeOf}
 use Rattle.machine.specs.Machine.{Phase, Poll, ClearHead, Next, phaseOf, turns, decided, pick, released}
 use Rattle.machine.specs.Invariant.{inHead, inAnnouncement, headValue, content, TaskSafe}
-use Rattle.machine.specs.Potential.{Row, row, Elsewhere, Applying, Finishing, one, answered, waiting, holds, dist, owed, owes}
+use Rattle.machine.specs.Potential.{Row, row, Elsewhere, Applying, Finishing, one, answered, waiting, held, holds, dist, owed, owes}
 use Rattle.machine.proofs.Update.{update-same, update-other}
 use Rattle.machine.proofs.Effect.{Effect, LinkedAt, ReleasedAt, Announced, effect, withAnnouncement, Allowed}
 use Rattle.machine.proofs.Branch.{Branch, stay-idle, read-only, announce, poll-response, poll-waits, load-head, link-free, link-held, link-fails, priority-waits, priority-rests, own-waits, own-response, own-empty, apply, apply-fails, reload-apply, reload-apply-lost, load-helped, link-helped, link-rested, link-helped-fails, validate, validate-fails, hand-over, hand-over-fails, reload-hand-over, reload-hand-over-lost, release, release-fails, reload-release, reload-release-lost, clear, clear-fails, reload-clear, reload-clear-lost, exit-clear, exit-release, exit-link, exit-retract, link-exit, link-exit-fails, clear-exit, clear-exit-fails, release-exit, release-exit-fails, retract}
@@ -18,7 +18,7 @@ use Rattle.machine.proofs.Own.{value-found, mark-found, not-empty}
 use Rattle.machine.proofs.Readings.{answered-not, not-true}
 use Rattle.machine.proofs.Class.{class}
 use Rattle.machine.proofs.Ordinary.{remarked}
-use Rattle.machine.proofs.Rows.{Extra, row-bounds}
+use Rattle.machine.proofs.Rows.{Extra, extras, row-bounds}
 use Rattle.machine.proofs.Distance.{leaves, turns-to-own, takes-priority, passes}
 use Rattle.machine.proofs.Debts.{owed-most, link-owes, mark-owes, miss-owes, unmark-owes, lost-owes, written-owes, cleared-owes, applied-owes}
 
@@ -27,13 +27,13 @@ use Rattle.machine.proofs.Debts.{owed-most, link-owes, mark-owes, miss-
 -- and the task owes less to task t by what it does there.
 abbrev pub Seen : (m m′ : Memory) (i k n p t : ℕ) → Row → Row → Effect → Next → Type 0
 Seen m m′ i k n p t r r′ e y = record {
-  rank : r′ .rank (inHead m′ i) (answered (content m′ i)) + class e .cost (inHead m i) ≤ r .rank (inHead m i) (answered (content m i)) + 9 * class e .stage;
+  rank : r′ .rank (held (headValue m′)) (inHead m′ i) (answered (content m′ i)) + class e .cost (inHead m i) ≤ r .rank (held (headValue m)) (inHead m i) (answered (content m i)) + 9 * class e .stage;
   turn : one (turns y) ≤ class e .stage;
   distance : dist n p k (r′ .work) ≤ dist n p k (r .work) + pick (waiting (content m p)) 0 n;
   debt : owes m′ i t (r′ .work) + one (class e .marks i t) ≤ owes m i t (r .work) + 4 * one (class e .writes i t);
 }
 
-module _ (b : Object) (m : Memory) (i k o n p t : ℕ) (ex : Extra (inHead m i) (answered (content m i))) where
+module _ (b : Object) (m : Memory) (i k o n p t : ℕ) (ex : Extra (held (headValue m)) (inHead m i) (answered (content m i))) where
   abbrev kept-debt : ℕ → ℕ
   kept-debt j = pick (decided (ℕ-discrete j t) && (holds t (headValue m) && inHead m i)) 0 (owed m t)
 
@@ -67,14 +67,14 @@ module _ (b : Object) (m : Memory) (i k o n p t : ℕ) (ex : Extra (inHead m i) 
   seen (poll-waits e) s a = rw (answered-not (content m i) e) (omega arith)
   seen load-head s a = omega arith
   seen (link-free e f) s a = rw (has-add i (m .head .marks)) (omega arith)
-  seen (link-held {j = j} e f) s a = rw (has-add i (m .head .marks), value-found e ∙ f) (omega (arith, link-owes (ℕ-discrete j t) (inAnnouncement m i t) (waiting (content m t))))
+  seen (link-held {j = j} e f) s a = rw (has-add i (m .head .marks), value-found e ∙ f) (omega (arith, extras true (inHead m i) (answered (content m i)), link-owes (ℕ-discrete j t) (inAnnouncement m i t) (waiting (content m t))))
   seen (link-fails e) s a = omega arith
   seen (priority-waits e) s a = omega (arith, takes-priority n p k)
   seen (priority-rests e) s a = omega (arith, passes n p k m e)
   seen (own-waits e) s a = omega (arith, turns-to-own n p k (not (decided (ℕ-discrete i p))))
   seen (own-response e) s a = omega (arith, leaves n p k true)
   seen (own-empty e) s a = absurd (not-empty o (s .own) e)
-  seen (apply {j = j} e) s a = omega (arith, row-bounds Poll (has i 0) (answered (content m i)) .rank, leaves n p k (not (decided (ℕ-discrete j p))), applied-owes b m i i t (Applying j) Elsewhere refl _ j _ a)
+  seen (apply {j = j} e) s a = omega (arith, row-bounds Poll true (has i 0) (answered (content m i)) .rank, leaves n p k (not (decided (ℕ-discrete j p))), applied-owes b m i i t (Applying j) Elsewhere refl _ j _ a)
   seen (apply-fails e) s a = omega arith
   seen (reload-apply e) s a = omega arith
   seen (reload-apply-lost {j = j} e) s a = rw e (omega (arith, leaves n p k (not (decided (ℕ-discrete j p)))))
@@ -84,7 +84,7 @@ module _ (b : Object) (m : Memory) (i k o n p t : ℕ) (ex : Extra (inHead m i) 
   seen (link-helped-fails {j = j} e) s a = rw (not-true (inAnnouncement m i t) (s .saved .0 t)) (omega (arith, miss-owes (ℕ-discrete j t) (holds t (headValue m) && inHead m i) (owed m t) (owed-most m t)))
   seen (validate e) s a = omega arith
   seen (validate-fails e) s a = omega arith
-  seen (hand-over {h = h} {j = j} e) s a = omega (arith, row-bounds (ClearHead h j) (inHead m i) (answered (content (withAnnouncement m j (unmarked (Resp (outcomeOf (h .value))))) i)) .rank, written-owes m j (unmarked (Resp (outcomeOf (h .value)))) i t (Finishing j))
+  seen (hand-over {h = h} {j = j} e) s a = omega (arith, row-bounds (ClearHead h j) (held (headValue m)) (inHead m i) (answered (content (withAnnouncement m j (unmarked (Resp (outcomeOf (h .value))))) i)) .rank, written-owes m j (unmarked (Resp (outcomeOf (h .value)))) i t (Finishing j))
   seen (hand-over-fails e) s a = omega arith
   seen (reload-hand-over e) s a = omega arith
   seen (reload-hand-over-lost e) s a = omega arith
@@ -92,7 +92,7 @@ module _ (b : Object) (m : Memory) (i k o n p t : ℕ) (ex : Extra (inHead m i) 
   seen (release-fails e) s a = omega arith
   seen (reload-release e) s a = omega arith
   seen (reload-release-lost e) s a = omega arith
-  seen (clear {j = j} e) s a = omega (arith, row-bounds Poll (has i 0) (answered (content m i)) .rank, cleared-owes b m i i t (Finishing j) Elsewhere refl a)
+  seen (clear {j = j} e) s a = omega (arith, row-bounds Poll false (has i 0) (answered (content m i)) .rank, cleared-owes b m i i t (Finishing j) Elsewhere refl a)
   seen (clear-fails e) s a = omega arith
   seen (reload-clear e) s a = omega arith
   seen (reload-clear-lost {j = j} e) s a = rw e (omega (arith, lost-owes (decided (ℕ-discrete j t)) (holds t (headValue m)) (owed m t)))

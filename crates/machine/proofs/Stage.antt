@@ -1,28 +1,30 @@
--- What the three stage changes do to the part of the head in the potential of a task with its response, whoever steps.
+-- What the three stage changes do to the ranks, and to the part of the head in the potential of a task with its response,
+-- whoever steps.
 use mathlib.Core.Path.{_≡_, refl, sym}
-use mathlib.Core.Bool.{true, false}
+use mathlib.Core.Bool.{Bool, true, false, not}
 use mathlib.Core.Logic.{_≢_}
-use Prim.Native.Nat.{ℕ, _+_, _≤_, _<_}
+use Prim.Native.Nat.{ℕ, _+_, _*_, _≤_, _<_}
 use native.Mathlib.Decide.{ℕ-discrete}
 use native.Mathlib.Omega.{arith}
-use Rattle.machine.specs.Marks.{has-none}
+use Rattle.machine.specs.Marks.{has, has-none}
 use Rattle.machine.specs.Object.{Object}
-use Rattle.machine.specs.Memory.{Held, Resp, Memory}
-use Rattle.machine.specs.Machine.{Phase, Task, Next, phaseOf, turns, advance}
+use Rattle.machine.specs.Memory.{HeadValue, Held, Content, Resp, Memory, unmarked}
+use Rattle.machine.specs.Machine.{Phase, Poll, Task, Next, phaseOf, turns, advance, pick}
+use Rattle.machine.specs.Kind.{kind}
 use Rattle.machine.specs.Run.{Config}
-use Rattle.machine.specs.Invariant.{inHead, headValue, content, IsResp}
-use Rattle.machine.specs.Potential.{row, answered, unanswered, rankOf, ranks, dist}
+use Rattle.machine.specs.Invariant.{inHead, headValue, content, IsResp, OwnContent}
+use Rattle.machine.specs.Potential.{row, answered, held, unanswered, but, rankOf, ranks, dist, headLoad}
 use Rattle.machine.proofs.Update.{update-all, update-same}
-use Rattle.machine.proofs.Effect.{Cleared, Applied, HandedOver, effect, Allowed}
-use Rattle.machine.proofs.Branch.{Branch, apply, hand-over, clear, clear-exit}
+use Rattle.machine.proofs.Effect.{Cleared, Applied, HandedOver, Announced, effect, withHead, Allowed}
+use Rattle.machine.proofs.Branch.{Branch, announce, apply, hand-over, clear, clear-exit}
 use Rattle.machine.proofs.Moved.{moved, Steps}
 use Rattle.machine.proofs.Own.{value-found}
 use Rattle.machine.proofs.Readings.{decided-no, resp-not-op}
-use Rattle.machine.proofs.Rows.{row-bounds}
-use Rattle.machine.proofs.Sums.{but-rise}
+use Rattle.machine.proofs.Rows.{extras, row-bounds}
+use Rattle.machine.proofs.Sums.{but-rise, but-rises, but-at-most}
 use Rattle.machine.proofs.Ordinary.{elsewhere}
 use Rattle.machine.proofs.Distance.{applies-other}
-use Rattle.machine.proofs.Waiting.{rank-same}
+use Rattle.machine.proofs.Waiting.{with}
 use Rattle.machine.proofs.Answered.{HeadDue, over, goes-on}
 
 -- ---- Their branches
@@ -38,10 +40,34 @@ module _ {b : Object} {m : Memory} {i k o : ℕ} where
   hand-over-keeps-rank : {f : Phase} {y : Next} {j r : ℕ} → Branch b m i k o f (HandedOver j r) y → row (phaseOf y) .rank ≡ row f .rank
   hand-over-keeps-rank (hand-over e) = refl
 
+  -- A task that applies or clears loses its mark in the head.
+  pub apply-rank : {f : Phase} {y : Next} {q j r : ℕ} → Branch b m i k o f (Applied q j r) y → row (phaseOf y) .rank true false (answered (content m i)) ≤ row f .rank false (inHead m i) (answered (content m i)) + 13
+  apply-rank (apply e) = omega (arith, extras true false (answered (content m i)), extras false (inHead m i) (answered (content m i)))
+
+  pub clear-rank : {f : Phase} {y : Next} → Branch b m i k o f Cleared y → OwnContent (content m i) o (kind f) → row (phaseOf y) .rank false false (answered (content m i)) ≤ row f .rank true (inHead m i) (answered (content m i)) + 3
+  clear-rank (clear e) s = omega (arith, extras false false (answered (content m i)), extras true (inHead m i) (answered (content m i)))
+  clear-rank (clear-exit e) s = rw s (omega (arith, extras true (inHead m i) true))
+
+  -- No stage change: a task that announces polls.
+  pub announces-polls : {f : Phase} {y : Next} {x : ℕ} → Branch b m i k o f (Announced x) y → phaseOf y ≡ Poll
+  announces-polls announce = refl
+
 -- The task that applies another one than p comes nearer to p.
 pub apply-turns : {b : Object} {m : Memory} {i o : ℕ} (n p : ℕ) (t : Task) {f : Phase} {y : Next} {q j r : ℕ} → Branch b m i (t .priority) o f (Applied q j r) y → p < n → t .priority < n → j ≢ p
     → dist n p (advance n t y .priority) (row (phaseOf y) .work) + 1 ≤ dist n p (t .priority) (row f .work)
 apply-turns n p t (apply {j = j} e) l h d = omega (arith, applies-other n p (t .priority) j l h d)
+
+-- ---- The ranks
+
+-- A new head without marks raises every rank by at most 3 if it was held, and by at most 13 if it was free.
+pub ranks-unmarked : (n i : ℕ) (c : Config) (p : ℕ) (v : HeadValue) (t′ : Task) (w : Bool) → p < n → held (headValue (c .memory)) ≡ w → held v ≡ not w
+    → row (t′ .phase) .rank (not w) false (answered (content (c .memory) i)) ≤ row (c .task i .phase) .rank w (inHead (c .memory) i) (answered (content (c .memory) i)) + pick w 3 13
+    → ranks n (with i c (withHead (c .memory) (unmarked v)) t′) p + pick w 3 13 ≤ ranks n c p + n * pick w 3 13
+ranks-unmarked n i c p v t′ w h e f y =
+    but-rises n p (rankOf c) (rankOf (with i c (withHead (c .memory) (unmarked v)) t′)) (pick w 3 13) h
+    (update-all (c .task) i t′ (λ x (s : Task). row (s .phase) .rank (held v) (has x 0) (answered (content (c .memory) x)) ≤ rankOf c x + pick w 3 13)
+    (rw (has-none i, rankOf, e, f) y)
+    (λ x _. rw (has-none x, rankOf, e, f) (row-bounds (c .task x .phase) w (inHead (c .memory) x) (answered (content (c .memory) x)) .unmarked)))
 
 -- ---- The part of the head
 
@@ -57,25 +83,30 @@ module _ (b : Object) (n i : ℕ) (c : Config) (p : ℕ) where
     abbrev m′ : Memory
     m′ = effect i (HandedOver j r) (c .memory)
 
+    abbrev c′ : Config
+    c′ = moved n i c (HandedOver j r) y
+
+    answers : content m′ j ≡ Resp r
+    answers = value-found (update-same (c .memory .announcement) j _)
+
     -- Only the rank of j rises.
-    rank-rises : ranks n (moved n i c (HandedOver j r) y) p ≤ ranks n c p + 9
+    pub rank-rises : ranks n c′ p ≤ ranks n c p + but p (λ _. 26) j
     rank-rises =
-        but-rise n p (rankOf c) (rankOf (moved n i c (HandedOver j r) y)) j 9
-        (update-all (c .task) i (advance n (c .task i) y) (λ x (s : Task). x ≢ j → row (s .phase) .rank (inHead (c .memory) x) (answered (content m′ x)) ≤ rankOf c x)
-        (λ d. omega (arith, mover d))
-        (λ x _ d. omega (arith, rank-same {s = c .task x} {h = inHead (c .memory) x} refl refl (at x d))))
-        (row-bounds (moved n i c (HandedOver j r) y .task j .phase) (inHead (c .memory) j) (answered (content m′ j)) .rank)
+        but-rise n p (rankOf c) (rankOf c′) j 26
+        (λ x d. omega (arith, ranked x (elsewhere (c .memory) i j x _ (λ z. d (sym z)))))
+        (omega (arith, ranked j answers, row-bounds (c .task j .phase) (held (headValue (c .memory))) (inHead (c .memory) j) (answered (content (c .memory) j)) .served))
       where
-        at : (x : ℕ) → x ≢ j → content m′ x ≡ content (c .memory) x
-        at x d = elsewhere (c .memory) i j x _ (λ z. d (sym z))
+        ranked : (x : ℕ) {a : Content} → content m′ x ≡ a → rankOf c′ x ≡ row (c .task x .phase) .rank (held (headValue (c .memory))) (inHead (c .memory) x) (answered a)
+        ranked x e t = update-all (c .task) i (advance n (c .task i) y) (λ x (s : Task). row (s .phase) .rank ≡ row (c .task x .phase) .rank) (hand-over-keeps-rank v) (λ _ _. refl) x t (held (headValue (c .memory))) (inHead (c .memory) x) (answered (e t))
 
-        mover : i ≢ j → row (phaseOf y) .rank (inHead (c .memory) i) (answered (content m′ i)) ≡ rankOf c i
-        mover d t = hand-over-keeps-rank v t (inHead (c .memory) i) (answered (at i d t))
+    pub hand-over-load : headLoad n c′ p ≤ ranks n c p + 3 + but p (λ _. 26) j
+    hand-over-load =
+        let h : headValue (c .memory) ≡ Held (a .0) j r = a .2 in
+        let after : unanswered m′ (headValue (c .memory)) ≡ false = rw (h, answers) refl in
+        rw after (omega (arith, rank-rises))
 
-    pub hand-over-head : HeadDue n c (moved n i c (HandedOver j r) y) p
+    pub hand-over-head : HeadDue n c c′ p
     hand-over-head =
         let h : headValue (c .memory) ≡ Held (a .0) j r = a .2 in
-        let x : content m′ j ≡ Resp r = value-found (update-same (c .memory .announcement) j _) in
         let before : unanswered (c .memory) (headValue (c .memory)) ≡ true = rw (h, a .3) refl in
-        let after : unanswered m′ (headValue (c .memory)) ≡ false = rw (h, x) refl in
-        goes-on 0 refl (rw (before, after) (omega (arith, rank-rises))) (λ h. omega arith)
+        goes-on 0 refl (rw before (omega (arith, hand-over-load, but-at-most p j 26))) (λ h. omega arith)

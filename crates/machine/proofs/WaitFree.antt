@@ -4,7 +4,7 @@ use mathlib.Core.Bool.{true, false}
 use mathlib.Core.List.{List, [], _∷_}
 use Prim.Native.Nat.{ℕ, suc, _+_, _*_, _≤_, _<_}
 use native.Mathlib.Decide.{ℕ-discrete}
-use native.Mathlib.Nat.{mul-add, add-mul, mul-assoc, mul-left-comm, mul-le-mul-left, mul-le-mul-right}
+use native.Mathlib.Nat.{mul-add, mul-left-comm, mul-le-mul-left, mul-le-mul-right}
 use native.Mathlib.Omega.{arith}
 use Rattle.machine.specs.Object.{Object}
 use Rattle.machine.specs.Machine.{Idle, Task, Next, Go, Turn, End, ends, advance, pick}
@@ -12,7 +12,7 @@ use Rattle.machine.specs.Kind.{Kind, Off, kind, off}
 use Rattle.machine.specs.Run.{Config, Call, Ended, Served, start, answerOf, begun, serve, run}
 use Rattle.machine.specs.Invariant.{Safe}
 use Rattle.machine.specs.Form.{Formed}
-use Rattle.machine.specs.Potential.{stageWeight, bound, potential, Bounded}
+use Rattle.machine.specs.Potential.{bound, potential, Bounded}
 use Rattle.machine.proofs.Update.{update-same, update-other}
 use Rattle.machine.proofs.Effect.{Effect}
 use Rattle.machine.proofs.Moved.{moved, Steps, steps}
@@ -30,10 +30,8 @@ bound-ceiling n h =
     let s = n * n in
     omega (
       arith,
-      add-mul (3 * s) 5 (stageWeight n),
-      mul-add (3 * s) (50 * n) 36,
-      mul-left-comm (3 * s) 50 n,
-      mul-assoc 3 s n,
+      mul-add s (16 * n) 47,
+      mul-left-comm s 16 n,
       mul-le-mul-right n h,
       mul-le-mul-left s h,
     )

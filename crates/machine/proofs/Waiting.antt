@@ -1,40 +1,41 @@
 -- The potential of an operation that waits for its response, when the cells and the record of one task i change.
 use mathlib.Core.Path.{_≡_, refl, sym}
-use mathlib.Core.Bool.{Bool, true, false}
+use mathlib.Core.Bool.{Bool, _&&_, not}
 use mathlib.Core.Logic.{_≢_}
 use Prim.Native.Nat.{ℕ, _+_, _*_, _≤_, _<_}
 use native.Mathlib.Decide.{ℕ-discrete}
 use native.Mathlib.Nat.{mul-le-mul-right}
 use native.Mathlib.Omega.{arith}
+use Rattle.machine.specs.Marks.{has}
 use Rattle.machine.specs.Object.{Object}
-use Rattle.machine.specs.Memory.{HeadValue, Free, Held, Content, Op, Resp, Memory, either, update}
-use Rattle.machine.specs.Machine.{Task, pick}
+use Rattle.machine.specs.Memory.{HeadValue, Free, Held, Content, Op, Resp, Cell, Memory, unmarked, either, update}
+use Rattle.machine.specs.Machine.{Poll, Task, cleared, pick}
 use Rattle.machine.specs.Run.{Config}
 use Rattle.machine.specs.Invariant.{inHead, headValue, content}
-use Rattle.machine.specs.Potential.{row, answered, waiting, but, rankOf, ranks, dist, distOf, dists, stages, stageWeight, reserve, placeOf, waitingPotential, bound}
+use Rattle.machine.specs.Potential.{Row, row, answered, waiting, stale, held, but, rankOf, ranks, dist, distOf, dists, applyWeight, handOverWeight, clearWeight, cycleWeight, stageWeights, placeOf, waitingPotential, bound}
 use Rattle.machine.proofs.Update.{update-same, update-other, either-no}
-use Rattle.machine.proofs.Effect.{Cleared, Applied, HandedOver, effect, Allowed}
+use Rattle.machine.proofs.Effect.{Effect, Cleared, Applied, HandedOver, effect, withHead, Allowed}
 use Rattle.machine.proofs.Own.{value-found}
-use Rattle.machine.proofs.Readings.{waiting-not, resp-not-op}
-use Rattle.machine.proofs.Class.{Class}
-use Rattle.machine.proofs.Ordinary.{Ordinary}
-use Rattle.machine.proofs.Rows.{row-bounds, place-most}
+use Rattle.machine.proofs.Readings.{one-le, pick-le, resp-not-op}
+use Rattle.machine.proofs.Class.{Class, class}
+use Rattle.machine.proofs.Ordinary.{stale-most, head-words, Ordinary, Sort, ordinary, clears, applies, hands-over}
+use Rattle.machine.proofs.Rows.{row-bounds}
 use Rattle.machine.proofs.Sums.{sum-most, sum-change, but-change, but-most}
-use Rattle.machine.proofs.Distance.{dist-most}
+use Rattle.machine.proofs.Distance.{dist-most, dist-below}
 
 -- The configuration with the cells m′ and the record t′ of task i.
 abbrev pub with : (i : ℕ) → Config → Memory → Task → Config
 with i c m′ t′ = record { memory = m′; task = update (c .task) i t′ }
 
-pub ranks-most : (n : ℕ) (c : Config) (p : ℕ) → p < n → ranks n c p + 9 ≤ n * 9
-ranks-most n c p h = but-most n p (rankOf c) (rankOf c) 9 h (λ x. row-bounds (c .task x .phase) (inHead (c .memory) x) (answered (content (c .memory) x)) .rank)
+pub ranks-most : (n : ℕ) (c : Config) (p : ℕ) → p < n → ranks n c p + 39 ≤ n * 39
+ranks-most n c p h = but-most n p 39 (rankOf c) h (λ x. row-bounds (c .task x .phase) (held (headValue (c .memory))) (inHead (c .memory) x) (answered (content (c .memory) x)) .rank)
 
-pub rank-same : {s s′ : Task} {h h′ : Bool} {a a′ : Content} → s′ ≡ s → h′ ≡ h → a′ ≡ a → row (s′ .phase) .rank h′ (answered a′) ≡ row (s .phase) .rank h (answered a)
-rank-same e f g t = row (e t .phase) .rank (f t) (answered (g t))
+rank-same : {s s′ : Task} {v v′ : HeadValue} {h h′ : Bool} {a a′ : Content} → s′ ≡ s → v′ ≡ v → h′ ≡ h → a′ ≡ a → row (s′ .phase) .rank (held v′) h′ (answered a′) ≡ row (s .phase) .rank (held v) h (answered a)
+rank-same e v f g t = row (e t .phase) .rank (held (v t)) (f t) (answered (g t))
 
 -- The rank of task i pays the cost of a change of class s.
 abbrev pub Pays : (i : ℕ) → Config → Memory → Task → Class → Type 0
-Pays i c m′ t′ s = row (t′ .phase) .rank (inHead m′ i) (answered (content m′ i)) + s .cost (inHead (c .memory) i) ≤ rankOf c i
+Pays i c m′ t′ s = row (t′ .phase) .rank (held (headValue m′)) (inHead m′ i) (answered (content m′ i)) + s .cost (inHead (c .memory) i) ≤ rankOf c i
 
 -- What another task p has of it.
 abbrev pub share : (i : ℕ) → Config → Class → (p : ℕ) → ℕ
@@ -45,7 +46,7 @@ module _ (n i : ℕ) (lt : i < n) (c : Config) (m′ : Memory) (t′ : Task) whe
   pub ranks-fall : {s : Class} → Ordinary (c .memory) m′ i s → Pays i c m′ t′ s → (p : ℕ) → ranks n (with i c m′ t′) p + share i c s p ≤ ranks n c p
   ranks-fall {s} o h p =
       but-change n p (rankOf c) (rankOf (with i c m′ t′)) i (s .cost (inHead (c .memory) i)) lt
-      (λ x d. omega (arith, rank-same (update-other (c .task) i t′ x (λ z. d (sym z))) (o .marks x d) (o .contents x d)))
+      (λ x d. omega (arith, rank-same (update-other (c .task) i t′ x (λ z. d (sym z))) (o .value) (o .marks x d) (o .contents x d)))
       (rw (rankOf, update-same (c .task) i t′) h)
 
   -- Task i comes nearer to p by a.
@@ -58,83 +59,81 @@ module _ (n i : ℕ) (lt : i < n) (c : Config) (m′ : Memory) (t′ : Task) whe
             (rw (update-same (c .task) i t′) (omega arith)),
       )
 
--- ---- The number of stages
+-- ---- The weights of the stage changes
 
--- It goes by the value of the head and by the content of its holder's announcement.
-pub stages-stay : (p d d′ : ℕ) (m m′ : Memory) (h : HeadValue) {h′ : HeadValue} → h′ ≡ h → d′ ≤ d → ((q j r : ℕ) → h ≡ Held q j r → content m′ j ≡ content m j) → stages p d′ m′ h′ ≤ stages p d m h
-stages-stay p d d′ m m′ (Free q) e l f = rw e (omega arith)
-stages-stay p d d′ m m′ (Held q j r) e l f = rw (e, f q j r refl) (go (ℕ-discrete j p) (waiting (content m j)))
+-- They go by the value of the head and by the content of its holder's announcement.
+pub stages-stay : (n p d d′ : ℕ) (m m′ : Memory) (h : HeadValue) {h′ : HeadValue} → h′ ≡ h → d′ ≤ d → ((q j r : ℕ) → h ≡ Held q j r → content m′ j ≡ content m j) → stageWeights n p d′ m′ h′ ≤ stageWeights n p d m h
+stages-stay n p d d′ m m′ (Free q) e l f = rw e (omega (arith, mul-le-mul-right (cycleWeight n) l))
+stages-stay n p d d′ m m′ (Held q j r) e l f = rw (e, f q j r refl) (go (ℕ-discrete j p) (pick (waiting (content m j)) handOverWeight 0))
   where
-    go : (k : Dec (j ≡ p)) (w : Bool) → either k 1 (pick w (3 * d′ + 4) (3 * d′ + 3)) ≤ either k 1 (pick w (3 * d + 4) (3 * d + 3))
+    go : (k : Dec (j ≡ p)) (w : ℕ) → either k 0 (d′ * cycleWeight n + applyWeight n + clearWeight n + w) ≤ either k 0 (d * cycleWeight n + applyWeight n + clearWeight n + w)
     go (yes e) w = omega arith
-    go (no n) true = omega arith
-    go (no n) false = omega arith
+    go (no _) w = omega (arith, mul-le-mul-right (cycleWeight n) l)
 
-pub stages-most : (p d : ℕ) (m : Memory) (h : HeadValue) → stages p d m h ≤ 3 * d + 4
-stages-most p d m (Free q) = omega arith
-stages-most p d m (Held q j r) = go (ℕ-discrete j p) (waiting (content m j))
+pub stages-most : (n p d : ℕ) (m : Memory) (h : HeadValue) → stageWeights n p d m h ≤ (d + 1) * cycleWeight n
+stages-most n p d m (Free q) = omega arith
+stages-most n p d m (Held q j r) = go (ℕ-discrete j p) (waiting (content m j))
   where
-    go : (k : Dec (j ≡ p)) (w : Bool) → either k 1 (pick w (3 * d + 4) (3 * d + 3)) ≤ 3 * d + 4
+    go : (k : Dec (j ≡ p)) (w : Bool) → either k 0 (d * cycleWeight n + applyWeight n + clearWeight n + pick w handOverWeight 0) ≤ (d + 1) * cycleWeight n
     go (yes e) w = omega arith
-    go (no n) true = omega arith
-    go (no n) false = omega arith
+    go (no _) w = omega (arith, pick-le w handOverWeight)
 
 -- A stage change, while p waits with o.
-module _ (b : Object) (m : Memory) (i p o d d′ : ℕ) (f : content m p ≡ Op o) where
-  held-by : (m : Memory) (d q j r : ℕ) → j ≢ p → stages p d m (Held q j r) ≡ pick (waiting (content m j)) (3 * d + 4) (3 * d + 3)
-  held-by m d q j r n = either-no (ℕ-discrete j p) 1 (pick (waiting (content m j)) (3 * d + 4) (3 * d + 3)) n
+module _ (b : Object) (n : ℕ) (m : Memory) (i p o d d′ : ℕ) (f : content m p ≡ Op o) where
+  held-by : (m : Memory) (d q j r : ℕ) → j ≢ p → stageWeights n p d m (Held q j r) ≡ d * cycleWeight n + applyWeight n + clearWeight n + pick (waiting (content m j)) handOverWeight 0
+  held-by m d q j r z = either-no (ℕ-discrete j p) 0 _ z
 
-  pub stages-clear : Allowed b m i Cleared → d′ ≤ d → stages p d′ (effect i Cleared m) (headValue (effect i Cleared m)) + 1 ≤ stages p d m (headValue m)
+  pub stages-clear : Allowed b m i Cleared → d′ ≤ d → stageWeights n p d′ (effect i Cleared m) (headValue (effect i Cleared m)) + clearWeight n ≤ stageWeights n p d m (headValue m)
   stages-clear (q, j, r, h, y) l =
-      rw (h, held-by m d q j r (λ z. resp-not-op (content m p) (rw z at y) (rw f tt)), waiting-not (content m j) (resp-not-op (content m j) y)) (omega arith)
+      rw (h, held-by m d q j r (λ z. resp-not-op (content m p) (rw z at y) (rw f tt))) (omega (arith, mul-le-mul-right (cycleWeight n) l))
 
-  pub stages-apply : (q j r : ℕ) → Allowed b m i (Applied q j r) → (j ≢ p → d′ + 1 ≤ d) → stages p d′ (effect i (Applied q j r) m) (headValue (effect i (Applied q j r) m)) + 1 ≤ stages p d m (headValue m)
+  pub stages-apply : (q j r : ℕ) → Allowed b m i (Applied q j r) → (j ≢ p → d′ + 1 ≤ d)
+      → stageWeights n p d′ (effect i (Applied q j r) m) (headValue (effect i (Applied q j r) m)) + applyWeight n ≤ stageWeights n p d m (headValue m)
   stages-apply q j r (c, x, h, y, _, _) l = rw h (go (ℕ-discrete j p))
     where
-      go : (k : Dec (j ≡ p)) → either k 1 (pick (waiting (content m j)) (3 * d′ + 4) (3 * d′ + 3)) + 1 ≤ 3 * d + 2
+      go : (k : Dec (j ≡ p)) → either k 0 (d′ * cycleWeight n + applyWeight n + clearWeight n + pick (waiting (content m j)) handOverWeight 0) + applyWeight n ≤ d * cycleWeight n + applyWeight n
       go (yes e) = omega arith
-      go (no n) = rw y (omega (arith, l n))
+      go (no z) = omega (arith, pick-le (waiting (content m j)) handOverWeight, mul-le-mul-right (cycleWeight n) (l z))
 
-  pub stages-hand-over : (j r : ℕ) → Allowed b m i (HandedOver j r) → j ≢ p → d′ ≤ d → stages p d′ (effect i (HandedOver j r) m) (headValue m) + 1 ≤ stages p d m (headValue m)
-  stages-hand-over j r (q, x, h, y) n l =
+  pub stages-hand-over : (j r : ℕ) → Allowed b m i (HandedOver j r) → j ≢ p → d′ ≤ d → stageWeights n p d′ (effect i (HandedOver j r) m) (headValue m) + handOverWeight ≤ stageWeights n p d m (headValue m)
+  stages-hand-over j r (q, x, h, y) z l =
       let a : content (effect i (HandedOver j r) m) j ≡ Resp r = value-found (update-same (m .announcement) j _) in
-      rw (h, held-by m d q j r n, held-by (effect i (HandedOver j r) m) d′ q j r n, y, a) (omega arith)
+      rw (h, held-by m d q j r z, held-by (effect i (HandedOver j r) m) d′ q j r z, y, a) (omega (arith, mul-le-mul-right (cycleWeight n) l))
 
 -- ---- The sum of all
-
--- s is what a rank pays, k what the place gains.
-weigh : (a a′ w r r′ l l′ e s k : ℕ) → a′ ≤ a → r′ + s ≤ r → l′ + k ≤ l + 5 * s → a′ * w + 5 * r′ + l′ + e + k ≤ a * w + 5 * r + l + e
-weigh a a′ w r r′ l l′ e s k x y z = omega (arith, mul-le-mul-right w x)
-
--- One stage less pays for everything else.
-pub stage-pays : (n a a′ r r′ l l′ e : ℕ) → a′ + 1 ≤ a → r′ + 9 ≤ n * 9 → l′ ≤ 37 → a′ * stageWeight n + 5 * r′ + l′ + e + 1 ≤ a * stageWeight n + 5 * r + l + e
-stage-pays n a a′ r r′ l l′ e x y z = omega (arith, mul-le-mul-right (stageWeight n) x)
 
 module _ (n i : ℕ) (lt : i < n) (c : Config) (m′ : Memory) (t′ : Task) (p : ℕ) where
   -- An ordinary change, whoever p is; k is what its place gains.
   pub waiting-stays : {s : Class} (k : ℕ) → Ordinary (c .memory) m′ i s → Pays i c m′ t′ s → dists n p (with i c m′ t′) ≤ dists n p c
-      → placeOf m′ p (row (with i c m′ t′ .task p .phase)) + k ≤ placeOf (c .memory) p (row (c .task p .phase)) + 5 * share i c s p
+      → placeOf m′ p (row (with i c m′ t′ .task p .phase)) + k ≤ placeOf (c .memory) p (row (c .task p .phase)) + share i c s p
       → waitingPotential n (with i c m′ t′) p + k ≤ waitingPotential n c p
   waiting-stays {s} k o r d l =
-      weigh _ _ (stageWeight n) _ _ _ _ (reserve n) (share i c s p) k
-      (stages-stay p _ _ (c .memory) m′ (headValue (c .memory)) (o .value) d (o .holder))
-      (ranks-fall n i lt c m′ t′ o r p) l
+      omega (arith, stages-stay n p _ _ (c .memory) m′ (headValue (c .memory)) (o .value) d (o .holder), ranks-fall n i lt c m′ t′ o r p)
 
-  -- The place of another task p: an ordinary change makes at most its compared word stale.
-  pub place-other : {s : Class} → Ordinary (c .memory) m′ i s → i ≢ p
-      → placeOf m′ p (row (with i c m′ t′ .task p .phase)) + 0 ≤ placeOf (c .memory) p (row (c .task p .phase)) + 5 * share i c s p
-  place-other {s} o d =
-      rw (update-other (c .task) i t′ p d, o .marks p (λ z. d (sym z)), either-no (ℕ-discrete i p) 0 (s .cost (inHead (c .memory) i)) d)
-      (omega (arith, o .words (row (c .task p .phase) .compared)))
+-- The place of another task p: an ordinary change makes at most its compared word stale, and a stage change has its cost.
+pub place-other : {b : Object} (i : ℕ) (c : Config) (t′ : Task) (p : ℕ) {e : Effect} → Sort b (c .memory) i e → i ≢ p
+    → placeOf (effect i e (c .memory)) p (row (update (c .task) i t′ p .phase)) + 0 ≤ placeOf (c .memory) p (row (c .task p .phase)) + share i c (class e) p + class e .stage
+place-other {b} i c t′ p s d = rw (update-other (c .task) i t′ p d) (go s)
+  where
+    r : Row
+    r = row (c .task p .phase)
 
-  -- A stage change.
-  pub waiting-falls : p < n → stages p (dists n p (with i c m′ t′)) m′ (headValue m′) + 1 ≤ stages p (dists n p c) (c .memory) (headValue (c .memory))
-      → waitingPotential n (with i c m′ t′) p + 1 ≤ waitingPotential n c p
-  waiting-falls h x = stage-pays n _ _ _ _ _ _ (reserve n) x (ranks-most n (with i c m′ t′) p h) (place-most m′ p (with i c m′ t′ .task p .phase))
+    renewed : (x : Cell HeadValue) → placeOf (withHead (c .memory) x) p r ≤ placeOf (c .memory) p r + 16
+    renewed x = omega (arith, head-words (c .memory) x (r .compared), one-le (r .linked && not (has p (x .marks))))
 
--- The most that it may be.
-pub waiting-most : (n : ℕ) (c : Config) (p : ℕ) → p < n → waitingPotential n c p + 1 ≤ bound n
-waiting-most n c p h =
-    let near : dists n p c ≤ n * n = sum-most n n (distOf n p c) (λ x. dist-most n p (c .task x .priority) (row (c .task x .phase) .work) h) in
-    let few : stages p (dists n p c) (c .memory) (headValue (c .memory)) + 1 ≤ 3 * (n * n) + 5 = omega (arith, stages-most p (dists n p c) (c .memory) (headValue (c .memory))) in
-    omega (arith, stage-pays n _ _ 0 _ 0 _ (reserve n) few (ranks-most n c p h) (place-most (c .memory) p (c .task p .phase)))
+    go : {e : Effect} → Sort b (c .memory) i e → placeOf (effect i e (c .memory)) p r + 0 ≤ placeOf (c .memory) p r + share i c (class e) p + class e .stage
+    go {e} (ordinary o) =
+        rw (o .marks p (λ z. d (sym z)), either-no (ℕ-discrete i p) 0 (class e .cost (inHead (c .memory) i)) d) (omega (arith, o .words (r .compared)))
+    go (clears _) = omega (arith, renewed (cleared (c .memory .head)))
+    go (applies {q = q} {j = j} {r = v} _) = omega (arith, renewed (unmarked (Held q j v)))
+    go {e} (hands-over _) = omega (arith, stale-most (effect i e (c .memory)) (r .compared))
+
+-- The most that it may be, when the operation has been announced.
+pub waiting-most : (n : ℕ) (c : Config) (p : ℕ) → p < n → c .task p .phase ≡ Poll → waitingPotential n c p + 1 ≤ bound n
+waiting-most n c p h e =
+    let near : dists n p c + 1 ≤ n * n = omega (
+      arith,
+      sum-change n (λ _. n) (distOf n p c) p 1 0 h (λ x _. dist-most n p (c .task x .priority) (row (c .task x .phase) .work) h) (rw e (omega (arith, dist-below n p (c .task p .priority) h))),
+      sum-most n n (λ _. n) (λ _. omega arith),
+    ) in
+    rw e (omega (arith, stages-most n p (dists n p c) (c .memory) (headValue (c .memory)), mul-le-mul-right (cycleWeight n) near, ranks-most n c p h))

@@ -8,6 +8,19 @@ use Rattle.machine.specs.Kind.{Kind, Off, Reading, Opening, Looping, Exi
 use Rattle.machine.specs.Run.{Config}
 use Rattle.machine.specs.Invariant.{inHead, inAnnouncement, headValue, content}
 
+-- ---- What a change by another task may cost, in own steps
+
+-- A change of the head, and one of an announcement: a saved word is stale then.
+abbrev pub headWeight : ℕ
+headWeight = 3
+
+abbrev pub announcementWeight : ℕ
+announcementWeight = 5
+
+-- A lost mark in the head: the way back to Poll.
+abbrev pub lostWeight : ℕ
+lostWeight = 13
+
 -- ---- The phases, by what the potential needs of them
 
 -- The word that the next swap compares with, where one is saved.
@@ -22,11 +35,11 @@ pub data Work : Type 0 where
   Elsewhere Linking Passing : Work
   Applying Approaching Marking Finishing : (j : ℕ) → Work
 
--- A row: the place in the loop, by whether the own operation has its response; the rank, by whether the own mark stands
--- in the head and by whether the own operation has its response; the compared word; whether the head was linked; the work.
+-- A row: the place in the loop, by whether the own operation has its response; the rank, by whether the head is held, the
+-- own mark stands in it and the own operation has its response; the compared word; whether the head was linked; the work.
 pub record Row : Type 0 where
   pub position : Bool → ℕ
-  pub rank : Bool → Bool → ℕ
+  pub rank : Bool → Bool → Bool → ℕ
   pub compared : Compared
   pub linked : Bool
   pub work : Work
@@ -34,54 +47,60 @@ pub record Row : Type 0 where
 abbrev pub always : ℕ → Bool → ℕ
 always k answered = k
 
-abbrev pub fixed : ℕ → Bool → Bool → ℕ
-fixed k marked answered = k
+-- What a held head adds to a rank: once it is linked, the announcement of its holder can be marked and unmarked.
+abbrev pub helping : Bool → ℕ
+helping held = pick held 10 0
 
--- What the own response, the own mark in the head and having linked it add to a rank.
-abbrev pub extra : Bool → Bool → Bool → ℕ
-extra true true linked = 6
-extra true false linked = 7
-extra false true linked = 0
-extra false false true = 3
-extra false false false = 1
+abbrev pub fixed : ℕ → Bool → Bool → Bool → ℕ
+fixed k held marked answered = k + helping held
 
-abbrev pub before : ℕ → Bool → Bool → ℕ
-before k marked answered = k + extra answered marked false
+-- What the own response, the own mark in the head and having linked it add to a rank. Without the mark the head can be
+-- linked (3); with the response it can be released (3), the operation retracted (5), and the next one announced (5) and
+-- the head linked for it (3).
+abbrev pub extra : (held answered marked linked : Bool) → ℕ
+extra held true true linked = 16 + helping held
+extra held true false linked = 19 + helping held
+extra held false true linked = 0
+extra held false false true = 3 + helping held
+extra held false false false = 3
 
-abbrev pub past : ℕ → Bool → Bool → ℕ
-past k marked answered = k + extra answered marked true
+abbrev pub leaving : Bool → Bool → Bool → ℕ
+leaving held marked answered = extra held answered marked false
 
-abbrev pub polling : Bool → Bool → ℕ
-polling marked answered = pick answered 0 2 + extra answered marked false
+abbrev pub past : ℕ → Bool → Bool → Bool → ℕ
+past k held marked answered = k + extra held answered marked true
 
-abbrev pub columns : (Bool → ℕ) → (Bool → Bool → ℕ) → Compared → Bool → Work → Row
+abbrev pub looping : ℕ → Bool → Bool → Bool → ℕ
+looping k held marked answered = pick answered k (helping held) + extra held answered marked false
+
+abbrev pub columns : (Bool → ℕ) → (Bool → Bool → Bool → ℕ) → Compared → Bool → Work → Row
 columns p r c l w = record { position = p; rank = r; compared = c; linked = l; work = w }
 
 abbrev pub row : Phase → Row
-row Idle = columns (always 0) (fixed 4) NoWord false Elsewhere
-row ReadOnly = columns (always 0) (fixed 4) NoWord false Elsewhere
-row Announce = columns (always 0) (fixed 4) NoWord false Elsewhere
-row Poll = columns (λ answered. pick answered 5 19) polling NoWord false Elsewhere
-row LoadHead = columns (always 18) (before 2) NoWord false Linking
-row (LinkHead h) = columns (always 17) (before 2) (HeadWord h) false Linking
+row Idle = columns (always 0) (fixed 8) NoWord false Elsewhere
+row ReadOnly = columns (always 0) (fixed 8) NoWord false Elsewhere
+row Announce = columns (always 0) (fixed 8) NoWord false Elsewhere
+row Poll = columns (λ answered. pick answered 5 19) (looping 0) NoWord false Elsewhere
+row LoadHead = columns (always 18) (looping 10) NoWord false Linking
+row (LinkHead h) = columns (always 17) (looping 10) (HeadWord h) false Linking
 row (LoadPriority h) = columns (always 9) (past 0) (HeadWord h) true Elsewhere
 row (LoadOwn h) = columns (always 8) (past 0) (HeadWord h) true Passing
 row (Apply h j o) = columns (always 6) (past 0) (HeadWord h) true (Applying j)
 row (ReloadApply h j o) = columns (always 7) (past 0) NoWord true (Applying j)
-row (LoadHelped h j) = columns (always 16) (past 2) NoWord true (Approaching j)
-row (LinkHelped h j a) = columns (always 15) (past 2) (AnnouncementWord j a) true (Approaching j)
-row (Validate h j a) = columns (always 14) (past 1) (AnnouncementWord j a) true (Marking j)
+row (LoadHelped h j) = columns (always 16) (past 10) NoWord true (Approaching j)
+row (LinkHelped h j a) = columns (always 15) (past 10) (AnnouncementWord j a) true (Approaching j)
+row (Validate h j a) = columns (always 14) (past 5) (AnnouncementWord j a) true (Marking j)
 row (HandOver h j a) = columns (always 12) (past 0) (AnnouncementWord j a) true (Marking j)
 row (ReloadHandOver h j a) = columns (always 13) (past 0) NoWord true (Marking j)
-row (Release h j a) = columns (always 12) (past 1) (AnnouncementWord j a) true (Marking j)
-row (ReloadRelease h j a) = columns (always 13) (past 1) NoWord true (Marking j)
+row (Release h j a) = columns (always 12) (past 5) (AnnouncementWord j a) true (Marking j)
+row (ReloadRelease h j a) = columns (always 13) (past 5) NoWord true (Marking j)
 row (ClearHead h j) = columns (always 6) (past 0) (HeadWord h) true (Finishing j)
 row (ReloadClear h j) = columns (always 7) (past 0) NoWord true (Finishing j)
-row (LoadExit v) = columns (always 4) (before 0) NoWord false Elsewhere
-row (LinkExit h v) = columns (always 3) (before 0) (HeadWord h) false Elsewhere
-row (ClearExit h v) = columns (always 2) (before 0) (HeadWord h) false Elsewhere
-row (ReleaseExit h v) = columns (always 2) (before 0) (HeadWord h) false Elsewhere
-row (Retract v) = columns (always 1) (fixed 5) NoWord false Elsewhere
+row (LoadExit v) = columns (always 4) leaving NoWord false Elsewhere
+row (LinkExit h v) = columns (always 3) leaving (HeadWord h) false Elsewhere
+row (ClearExit h v) = columns (always 2) leaving (HeadWord h) false Elsewhere
+row (ReleaseExit h v) = columns (always 2) leaving (HeadWord h) false Elsewhere
+row (Retract v) = columns (always 1) (fixed 13) NoWord false Elsewhere
 
 -- ---- Readings of the cells
 
@@ -99,11 +118,16 @@ waiting Empty = false
 waiting (Op o) = true
 waiting (Resp v) = false
 
--- The compared word is not in its cell any more.
-abbrev pub stale : Memory → Compared → Bool
-stale m NoWord = false
-stale m (HeadWord h) = not (decided (head-dec (m .head) h))
-stale m (AnnouncementWord j a) = not (decided (announcement-dec (m .announcement j) a))
+-- What it may cost that the compared word is not in its cell any more.
+abbrev pub stale : Memory → Compared → ℕ
+stale m NoWord = 0
+stale m (HeadWord h) = headWeight * one (not (decided (head-dec (m .head) h)))
+stale m (AnnouncementWord j a) = announcementWeight * one (not (decided (announcement-dec (m .announcement j) a)))
+
+-- The head is held.
+abbrev pub held : HeadValue → Bool
+held (Free q) = false
+held (Held q j r) = true
 
 -- Task i holds the head.
 abbrev pub holds : ℕ → HeadValue → Bool
@@ -125,9 +149,9 @@ sum (suc n) f = sum n f + f n
 abbrev pub but : ℕ → (ℕ → ℕ) → ℕ → ℕ
 but p f x = either (ℕ-discrete x p) 0 (f x)
 
--- How many times a task can still change a cell before the next stage change.
+-- What the changes of cells by a task before the next stage change may still cost another.
 abbrev pub rankOf : Config → ℕ → ℕ
-rankOf c x = row (c .task x .phase) .rank (inHead (c .memory) x) (answered (content (c .memory) x))
+rankOf c x = row (c .task x .phase) .rank (held (headValue (c .memory))) (inHead (c .memory) x) (answered (content (c .memory) x))
 
 abbrev pub ranks : ℕ → Config → ℕ → ℕ
 ranks n c p = sum n (but p (rankOf c))
@@ -158,40 +182,48 @@ dists n p c = sum n (distOf n p c)
 
 -- ---- The weights
 
--- The own steps that a change of a cell by another task may cost, since a saved word is stale then.
-abbrev pub changeWeight : ℕ
-changeWeight = 5
-
--- The own steps that a lost mark in the head may cost: the way back to Poll.
-abbrev pub lostWeight : ℕ
-lostWeight = 13
-
--- The greatest rank.
+-- The greatest rank, and the most by which a rank rises when the own response comes.
 abbrev pub greatestRank : ℕ
-greatestRank = 9
+greatestRank = 39
+
+abbrev pub responseRise : ℕ
+responseRise = 26
+
+-- What an apply and a clear may cost. They take all marks off the head: the ranks of the n - 1 others may rise, by 13 each
+-- at an apply and by 3 at a clear; the own word may go stale, and the own mark may be lost.
+abbrev pub applyWeight : ℕ → ℕ
+applyWeight n = 13 * n + 3
+
+abbrev pub clearWeight : ℕ → ℕ
+clearWeight n = 3 * n + 13
+
+-- What a hand-over to another task may cost: the rank of that task may rise, and the own word may go stale.
+abbrev pub handOverWeight : ℕ
+handOverWeight = responseRise + announcementWeight
+
+-- What a cycle of the head may cost: an apply, a hand-over and a clear.
+abbrev pub cycleWeight : ℕ → ℕ
+cycleWeight n = applyWeight n + handOverWeight + clearWeight n
 
 -- ---- An operation that waits for its response
 
--- What a stage change may cost, and what an operation may take once it has its response.
-abbrev pub stageWeight : ℕ → ℕ
-stageWeight n = 50 * n + 36
-
+-- What an operation may take once it has its response, but for the ranks.
 abbrev pub reserve : ℕ → ℕ
-reserve n = 120 * n + 60
+reserve n = 59 * n + 32
 
--- The stage changes that task p may still have to wait for, by the sum d of the distances.
-abbrev pub stages : (p d : ℕ) → Memory → HeadValue → ℕ
-stages p d m (Free q) = 3 * d + 2
-stages p d m (Held q j r) = either (ℕ-discrete j p) 1 (pick (waiting (content m j)) (3 * d + 4) (3 * d + 3))
+-- What the stage changes up to the apply of task p may cost, by the sum d of the distances.
+abbrev pub stageWeights : (n p d : ℕ) → Memory → HeadValue → ℕ
+stageWeights n p d m (Free q) = d * cycleWeight n + applyWeight n
+stageWeights n p d m (Held q j r) = either (ℕ-discrete j p) 0 (d * cycleWeight n + applyWeight n + clearWeight n + pick (waiting (content m j)) handOverWeight 0)
 
 -- The own place: in the loop, with a stale word, with the mark in the head lost.
 abbrev pub placeOf : Memory → ℕ → Row → ℕ
-placeOf m i r = r .position false + changeWeight * one (stale m (r .compared)) + lostWeight * one (r .linked && not (inHead m i))
+placeOf m i r = r .position false + stale m (r .compared) + lostWeight * one (r .linked && not (inHead m i))
 
 abbrev pub waitingPotential : ℕ → Config → ℕ → ℕ
 waitingPotential n c p =
-    stages p (dists n p c) (c .memory) (headValue (c .memory)) * stageWeight n
-    + changeWeight * ranks n c p
+    stageWeights n p (dists n p c) (c .memory) (headValue (c .memory))
+    + ranks n c p
     + placeOf (c .memory) p (row (c .task p .phase))
     + reserve n
 
@@ -251,7 +283,7 @@ abbrev pub atHead : Memory → ℕ → Bool
 atHead m i = inHead m i || holds i (headValue m)
 
 abbrev pub headLoad : ℕ → Config → ℕ → ℕ
-headLoad n c i = ranks n c i + 1 + pick (unanswered (c .memory) (headValue (c .memory))) greatestRank 0
+headLoad n c i = ranks n c i + headWeight + pick (unanswered (c .memory) (headValue (c .memory))) responseRise 0
 
 abbrev pub headPart : ℕ → Config → ℕ → ℕ
 headPart n c i = pick (atHead (c .memory) i) (headLoad n c i) 0
@@ -261,25 +293,25 @@ abbrev pub debts : ℕ → Config → (i t : ℕ) → ℕ
 debts n c i t = sum n (but i (λ x. owes (c .memory) x t (row (c .task x .phase) .work)))
 
 abbrev pub markPart : ℕ → Config → (i t : ℕ) → ℕ
-markPart n c i t = pick (inAnnouncement (c .memory) i t) (1 + debts n c i t) 0
+markPart n c i t = pick (inAnnouncement (c .memory) i t) (announcementWeight * (1 + debts n c i t)) 0
 
 -- What is set aside before the links of the head and of an announcement, by the parts that are due then.
 abbrev pub headAside : ℕ → Work → ℕ
-headAside n w = pick (linking w) (9 * n + 1) 0
+headAside n w = pick (linking w) (greatestRank * n) 0
 
 abbrev pub announcementAside : ℕ → (ℕ → ℕ) → Work → ℕ
 announcementAside n marks Elsewhere = 0
-announcementAside n marks Linking = 4 * n + 1
+announcementAside n marks Linking = 20 * n + 5
 announcementAside n marks Passing = 0
 announcementAside n marks (Applying j) = 0
-announcementAside n marks (Approaching j) = 4 * n + 1
+announcementAside n marks (Approaching j) = 20 * n + 5
 announcementAside n marks (Marking j) = marks j
 announcementAside n marks (Finishing j) = 0
 
 -- The own place, with the part of the head and the parts of the announcements.
 abbrev pub lasts : (n head : ℕ) → (ℕ → ℕ) → Memory → Row → ℕ
 lasts n head marks m r =
-    changeWeight * (head + headAside n (r .work) + announcementAside n marks (r .work) + one (counts (r .work) && stale m (r .compared))) + r .position true
+    head + headAside n (r .work) + announcementAside n marks (r .work) + pick (counts (r .work)) (stale m (r .compared)) 0 + r .position true
 
 abbrev pub answeredPotential : ℕ → Config → ℕ → ℕ
 answeredPotential n c i = lasts n (headPart n c i) (markPart n c i) (c .memory) (row (c .task i .phase))
@@ -288,7 +320,7 @@ answeredPotential n c i = lasts n (headPart n c i) (markPart n c i) (c .memory) 
 
 -- The proved bound of own steps.
 abbrev pub bound : ℕ → ℕ
-bound n = (3 * (n * n) + 5) * stageWeight n + reserve n
+bound n = n * n * cycleWeight n + greatestRank * n + reserve n
 
 abbrev pub announcedPotential : ℕ → Config → ℕ → Content → ℕ
 announcedPotential n c i Empty = waitingPotential n c i
