@@ -10,8 +10,8 @@ use Rattle.io.specs.Counts.{Counts}
 use Rattle.refusal.specs.declared.Refusal.the-variants as cause
 use Rattle.table.specs.declared.Shape.{Shape}
 use Rattle.table.specs.File.{shapeOf}
-use Rattle.stepping.specs.declared.access.Answer.{Answer}
-use Rattle.stepping.specs.declared.access.Answer.the-variants as step
+use Rattle.stepping.specs.declared.call.Answer.{Answer}
+use Rattle.stepping.specs.declared.call.Answer.the-variants as step
 use Rattle.stepping.specs.declared.call.StartAnswer.{StartAnswer}
 use Rattle.stepping.specs.declared.call.StartAnswer.the-variants as start
 use Rattle.stepping.specs.declared.call.BeginAnswer.{BeginAnswer}

@@ -7,7 +7,7 @@ use drive::first;
 use records::record;
 use records::record::Task;
 use refusal::Refusal;
-use stepping::access::Answer;
+use stepping::call::Answer;
 use stepping::call::BeginAnswer;
 use stepping::call::StartAnswer;
 ghost use mathlib.Core.Path.{_≡_};

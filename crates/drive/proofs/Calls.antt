@@ -5,7 +5,7 @@ use Prim.Native.Nat.{ℕ, _≤_}
 use lib.ListN.{length, set, List·getD-eq-default}
 use lib.Seq.{set-out}
 use Rattle.records.specs.declared.record.Task.{Task}
-use Rattle.stepping.specs.declared.access.Answer.{Answer}
+use Rattle.stepping.specs.declared.call.Answer.{Answer}
 use Rattle.stepping.specs.declared.call.BeginAnswer.{BeginAnswer}
 use Rattle.stepping.specs.declared.call.Begin.{Begin}
 use Rattle.stepping.specs.declared.call.Step.{Step}

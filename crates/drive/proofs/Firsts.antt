@@ -15,8 +15,8 @@ use Rattle.table.specs.declared.Checked.{Checked}
 use Rattle.table.specs.declared.Checked.the-variants as table
 use Rattle.table.specs.Check.{checkOf}
 use Rattle.records.specs.declared.record.Task.{Task}
-use Rattle.stepping.specs.declared.access.Answer.{Answer}
-use Rattle.stepping.specs.declared.access.Answer.the-variants as step
+use Rattle.stepping.specs.declared.call.Answer.{Answer}
+use Rattle.stepping.specs.declared.call.Answer.the-variants as step
 use Rattle.stepping.specs.declared.call.StartAnswer.{StartAnswer}
 use Rattle.stepping.specs.declared.call.StartAnswer.the-variants as start
 use Rattle.stepping.specs.declared.call.BeginAnswer.{BeginAnswer}

@@ -25,7 +25,7 @@ use denote.Triple.Clauses.{ensured, lasts}
 use Rattle.records.specs.declared.record.Task.{Task}
 use Rattle.records.proofs.record.Task as T
 use Rattle.stepping.specs.declared.call.BeginAnswer.{BeginAnswer}
-use Rattle.stepping.specs.declared.access.Answer.{Answer}
+use Rattle.stepping.specs.declared.call.Answer.{Answer}
 use Rattle.stepping.specs.declared.call.Begin.{Begin}
 use Rattle.stepping.proofs.call.Begin as BeginRow
 use Rattle.stepping.proofs.call.Begin.Laws as BeginLaws

@@ -1,6 +1,6 @@
 // The calls for a holder of nine records by value: the first of them are lent as a row.
 use records::record::Task;
-use stepping::access::Answer;
+use stepping::call::Answer;
 use stepping::call::BeginAnswer;
 use stepping::call::StartAnswer;
 ghost use mathlib.Core.Path.{_≡_};

@@ -3,8 +3,8 @@ pub mod first;
 
 use records::record;
 use records::record::Task;
-use stepping::access::Answer;
 use stepping::call;
+use stepping::call::Answer;
 use stepping::call::BeginAnswer;
 use stepping::call::StartAnswer;
 ghost use mathlib.Core.Path.{_≡_};

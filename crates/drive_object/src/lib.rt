@@ -3,7 +3,7 @@ use cells::ceiling;
 use cells::ceiling::Ceiling;
 use records::record::Task;
 use refusal::Refusal;
-use stepping::access::Answer;
+use transition::access::Answer;
 use stepping::call::BeginAnswer;
 use stepping::call::StartAnswer;
 use table::Checked;

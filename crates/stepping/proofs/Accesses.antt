@@ -16,29 +16,13 @@ use Rattle.machine.specs.Memory.{Cell, Content, Memory, either, update, head-de
 use Rattle.machine.specs.Machine as machine
 use Rattle.machine.specs.Machine.{NoAccess, ReadHead, ReadAnnouncement, WriteAnnouncement, SwapHead, SwapAnnouncement, Nothing, HeadRead, AnnouncementRead, decided, result, perform}
 use Rattle.machine.specs.Form.{HeadFormed, AnnouncementFormed, MemoryFormed}
-use Rattle.stepping.specs.declared.access.Access.{Access}
-use Rattle.stepping.specs.declared.access.Access.the-variants.{Read, Write, Swap}
-use Rattle.stepping.specs.declared.access.Found.{Found}
-use Rattle.stepping.specs.declared.access.Found.the-variants.{Word, Stored, Swapped, Unswapped}
+use Rattle.transition.specs.declared.access.Found.the-variants.{Word}
 use Rattle.stepping.specs.Step.{touched, foundOf, performOf, cellInForm}
-use Rattle.stepping.specs.Encoding.{ObjectTable, objectOf, encodeHead, encodeAnnouncement, encodeCells}
+use Rattle.transition.specs.Object.{ObjectTable, objectOf}
+use Rattle.transition.specs.Encoding.{encodeHead, encodeAnnouncement, encodeAccess, encodeResult}
+use Rattle.transition.proofs.EncodedCells.{head-same, head-in-form, announcement-same, announcement-in-form}
+use Rattle.stepping.specs.Encoding.{encodeCells}
 use Rattle.stepping.proofs.Tables.{tabulate-length, tabulate-at, tabulate-set}
-use Rattle.stepping.proofs.EncodedCells.{head-same, head-in-form, announcement-same, announcement-in-form}
-
--- The access and its result on words. A step with no access isn't accepted.
-abbrev pub encodeAccess : machine.Access → Access
-encodeAccess NoAccess = Read 0
-encodeAccess ReadHead = Read 0
-encodeAccess (ReadAnnouncement j) = Read (j + 1)
-encodeAccess (WriteAnnouncement j a) = Write (j + 1) (encodeAnnouncement a)
-encodeAccess (SwapHead h g) = Swap 0 (encodeHead h) (encodeHead g)
-encodeAccess (SwapAnnouncement j a c) = Swap (j + 1) (encodeAnnouncement a) (encodeAnnouncement c)
-
-abbrev pub encodeResult : machine.Result → Found
-encodeResult Nothing = Stored
-encodeResult (HeadRead h) = Word (encodeHead h)
-encodeResult (AnnouncementRead a) = Word (encodeAnnouncement a)
-encodeResult (machine.Swapped made) = cond made Swapped Unswapped
 
 -- A choice by a test that says a decision.
 cond-either : {A B P : Type 0} (f : A → B) (d : Dec P) (x y : A) → cond (decided d) (f x) (f y) ≡ f (either d x y)

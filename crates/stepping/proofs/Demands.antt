@@ -29,12 +29,13 @@ use Rattle.machine.specs.Kind.{off}
 use Rattle.records.specs.declared.record.Task.{Task}
 use Rattle.stepping.specs.declared.call.StartAnswer.the-variants.{Started}
 use Rattle.stepping.specs.Call.{startOf, taskAt}
-use Rattle.stepping.specs.Encoding.{ObjectTable, objectOf, encodeCells}
+use Rattle.transition.specs.Object.{ObjectTable, objectOf}
+use Rattle.stepping.specs.Encoding.{encodeCells}
 use Rattle.stepping.specs.Runs.{Outcome, startStore, serveOf, runOf, historyOf, shownBy, encodeConfig}
 use Rattle.stepping.proofs.Simulation.{ceiling, InRange, serve-simulates, run-simulates, history-simulates, access-simulates}
 use Rattle.stepping.proofs.Starts.{Starts, start-cells, start-simulates}
 use Rattle.stepping.specs.Statement.{accessOf}
-use Rattle.stepping.proofs.Accesses.{encodeAccess}
+use Rattle.transition.specs.Encoding.{encodeAccess}
 use Rattle.machine.specs.History.{Pends, pending}
 use Rattle.machine.proofs.OwnSteps.{own-record}
 use Rattle.machine.proofs.Pending.{pending-is}

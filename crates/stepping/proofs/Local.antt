@@ -14,11 +14,12 @@ use Rattle.records.specs.declared.record.Task.{Task}
 use Rattle.records.specs.declared.phase.Phase.{Phase}
 use Rattle.records.specs.declared.phase.PhaseRead.{PhaseRead}
 use Rattle.records.specs.declared.phase.PhaseRead.the-variants as record-phase
-use Rattle.stepping.specs.declared.access.Access.{Access}
+use Rattle.transition.specs.declared.access.Access.{Access}
 use Rattle.stepping.specs.declared.call.Admitted.{Admitted}
 use Rattle.stepping.specs.declared.call.Admitted.the-variants as admitted
 use Rattle.records.specs.Record.{readRecord}
-use Rattle.stepping.specs.Step.{planOf, touched, leftOf, performOf, cellInForm, usedInRange}
+use Rattle.transition.specs.Transition.{planOf, usedInRange}
+use Rattle.stepping.specs.Step.{touched, leftOf, performOf, cellInForm}
 use Rattle.stepping.specs.Call.{admitOf, Stepped, refuseStep, touch, stepFrom, stepIn, stepTask}
 use Rattle.stepping.proofs.Lists.{set-alike}
 use Rattle.stepping.specs.Statement.{accessFrom, accessIn, accessOf, Alike, Elsewhere}
@@ -47,7 +48,7 @@ module _ (file cells others : List ℕ) (n i : ℕ) (t : Task) (long : length ce
   alike-from : (shape : Shape) (read : PhaseRead) → let k = touched (accessFrom file shape i t read) in getD cells k 0 ≡ getD others k 0 → Alike k (stepFrom file shape cells n i t read) (stepFrom file shape others n i t read)
   alike-from shape (record-phase.Refused c) e = refusals 0 c e
   alike-from shape (record-phase.Known f) e =
-      let a = planOf file shape i t f in
+      let a = planOf file shape i (t .priority) t f in
       choice (eqb (t .phase) 0) _ _ _ _ (refusals (touched a) cause.Idle e) (touches shape f a e)
 
   alike-in : (x : Admitted) → let k = touched (accessIn file n i t x) in getD cells k 0 ≡ getD others k 0 → Alike k (stepIn file cells n i t x) (stepIn file others n i t x)
@@ -88,7 +89,7 @@ module _ (file cells : List ℕ) (n i : ℕ) (t : Task) where
   kept-from : (shape : Shape) (read : PhaseRead) → Elsewhere cells (touched (accessFrom file shape i t read)) (stepFrom file shape cells n i t read)
   kept-from shape (record-phase.Refused c) = refusal 0 c
   kept-from shape (record-phase.Known f) =
-      let a = planOf file shape i t f in
+      let a = planOf file shape i (t .priority) t f in
       either (eqb (t .phase) 0) _ _ (refusal (touched a) cause.Idle) (kept-touch shape f a)
 
   kept-in : (x : Admitted) → Elsewhere cells (touched (accessIn file n i t x)) (stepIn file cells n i t x)

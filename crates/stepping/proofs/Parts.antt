@@ -11,12 +11,13 @@ use Rattle.table.specs.declared.Shape.{Shape}
 use Rattle.records.specs.declared.record.Task.{Task}
 use Rattle.records.specs.declared.phase.Phase.{Phase}
 use Rattle.records.specs.declared.phase.PhaseRead.the-variants.{Known}
-use Rattle.stepping.specs.declared.access.Access.{Access}
-use Rattle.stepping.specs.declared.access.Found.{Found}
-use Rattle.stepping.specs.declared.access.Next.{Next}
-use Rattle.stepping.specs.declared.access.Answer.the-variants as step
+use Rattle.transition.specs.declared.access.Access.{Access}
+use Rattle.transition.specs.declared.access.Found.{Found}
+use Rattle.transition.specs.declared.access.Next.{Next}
+use Rattle.stepping.specs.declared.call.Answer.the-variants as step
 use Rattle.stepping.specs.declared.call.Step.{Step}
-use Rattle.stepping.specs.Step.{planOf, touched, foundOf, performOf, cellInForm, usedInRange, nextOf, advanceOf, answerOf}
+use Rattle.transition.specs.Transition.{planOf, usedInRange, nextOf}
+use Rattle.stepping.specs.Step.{touched, foundOf, performOf, cellInForm, advanceOf, answerOf}
 use Rattle.stepping.specs.Call.{Stepped, refuseStep, stepFrom}
 
 -- The cells, record and answer that a step leaves.
@@ -32,7 +33,7 @@ module _ (file : List ℕ) (shape : Shape) (cells : List ℕ) (n i : ℕ) (t : T
   idle-refused z = simp (eq-eqb (t .phase) 0 z)
 
   -- The access a of a pending record, on cell k.
-  module _ (a : Access) (k : ℕ) (pending : t .phase ≡ 0 → ⊥) (planned : a ≡ planOf file shape i t f) (place : k ≡ touched a) where
+  module _ (a : Access) (k : ℕ) (pending : t .phase ≡ 0 → ⊥) (planned : a ≡ planOf file shape i (t .priority) t f) (place : k ≡ touched a) where
     pub cell-refused : cellInForm shape n k (getD cells k 0) ≡ false → refuseStep cells t cause.Cell ≡ stepFrom file shape cells n i t (Known f)
     cell-refused e = simp (ne-eqb (t .phase) 0 pending, sym planned, sym place, e)
 
@@ -42,7 +43,7 @@ module _ (file : List ℕ) (shape : Shape) (cells : List ℕ) (n i : ℕ) (t : T
 
       pub accepted : usedInRange file shape t (getD cells k 0) f ≡ true → (g : Found) (x : Next) (after : List ℕ) (r : Step)
           → (g ≡ foundOf (getD cells (touched a) 0) a) × (after ≡ performOf cells a)
-          → x ≡ nextOf file shape i t f g
+          → x ≡ nextOf file shape i (t .priority) t f g
           → r ≡ record { task = advanceOf n t x; answer = answerOf t x }
           → left after r ≡ stepFrom file shape cells n i t (Known f)
       accepted e g x after r found led gave =

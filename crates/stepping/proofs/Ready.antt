@@ -16,7 +16,8 @@ use Rattle.records.specs.declared.phase.PhaseRead.{PhaseRead}
 use Rattle.records.specs.declared.phase.PhaseRead.the-variants.{Known, Refused}
 use Rattle.records.specs.Phase.{phaseOf}
 use Rattle.records.specs.Record.{idleInForm, namesTask, payloadInForm, pendingInForm, recordInForm, inForm, readRecord}
-use Rattle.stepping.specs.Step.{planOf, touched}
+use Rattle.transition.specs.Transition.{planOf}
+use Rattle.stepping.specs.Step.{touched}
 use Rattle.records.proofs.Phases.{WorksBelow, works}
 
 -- A record is read as a phase only if it is in form and its number is that phase's.
@@ -73,7 +74,7 @@ module _ (shape : Shape) (n c : ℕ) (t : Task) where
 
 -- The access of a task below n, for a phase that works for a task below n, touches one of n + 1 cells.
 module _ (file : List ℕ) (shape : Shape) (n i : ℕ) (t : Task) (own : i < n) (first : t .priority < n) where
-  pub touched-below : (f : Phase) → WorksBelow n f → touched (planOf file shape i t f) < n + 1
+  pub touched-below : (f : Phase) → WorksBelow n f → touched (planOf file shape i (t .priority) t f) < n + 1
   unfolding planOf
   touched-below Idle h = omega arith
   touched-below ReadOnly h = omega arith
@@ -104,12 +105,12 @@ module _ (file : List ℕ) (shape : Shape) (n i : ℕ) (t : Task) (own : i < n) 
 pub record Ready (file : List ℕ) (shape : Shape) (n k i : ℕ) (t : Task) (f : Phase) : Type 0 where
   pub priority : t .priority < n
   pub steps : t .steps < 1000000
-  pub cell : touched (planOf file shape i t f) < k
+  pub cell : touched (planOf file shape i (t .priority) t f) < k
 
 pub ready : (file : List ℕ) (shape : Shape) (n c k i : ℕ) (t : Task) (f : Phase) → c ≤ 512000 → k ≡ n + 1 → i < n → readRecord shape n c t ≡ Known f → Ready file shape n k i t f
 ready file shape n c k i t f low count own e =
     let read = read-parts shape n c t f e in
     let form = formed shape n c t (read .0) in
     let first : t .priority < n = form .priority in
-    let cell : touched (planOf file shape i t f) < n + 1 = touched-below file shape n i t own first f (works n (t .phase) (form .names) f (read .1)) in
+    let cell : touched (planOf file shape i (t .priority) t f) < n + 1 = touched-below file shape n i t own first f (works n (t .phase) (form .names) f (read .1)) in
     record { priority = first; steps = omega (arith, form .steps); cell = omega arith }

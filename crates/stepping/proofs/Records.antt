@@ -25,9 +25,10 @@ use Rattle.records.specs.declared.phase.Phase.the-variants as phase
 use Rattle.records.specs.declared.phase.PhaseRead.the-variants.{Known}
 use Rattle.records.specs.Phase.{phaseNumber, phaseOf}
 use Rattle.records.specs.Record.{idleTask, idleInForm, namesTask, payloadInForm, pendingInForm, recordInForm, readRecord}
-use Rattle.stepping.specs.Encoding.{ObjectTable, objectOf, encodeHead, encodeAnnouncement, Kept, keep, kept, encodeTask}
+use Rattle.transition.specs.Object.{ObjectTable, objectOf}
+use Rattle.transition.specs.Encoding.{encodeHead, encodeAnnouncement, Kept, keep, kept, encodeTask}
 use Rattle.records.proofs.Phases.{WorksBelow, known}
-use Rattle.stepping.proofs.EncodedCells.{head-in-form, announcement-in-form}
+use Rattle.transition.proofs.EncodedCells.{head-in-form, announcement-in-form}
 
 -- What a record has to keep of a phase of a pending operation.
 record KeptFormed (shape : Shape) (n : ℕ) (k : Kept) : Type 0 where

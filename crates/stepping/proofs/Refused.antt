@@ -15,17 +15,18 @@ use Rattle.records.specs.declared.record.Task.{Task}
 use Rattle.records.specs.declared.phase.Phase.{Phase}
 use Rattle.records.specs.declared.phase.PhaseRead.{PhaseRead}
 use Rattle.records.specs.declared.phase.PhaseRead.the-variants as record-phase
-use Rattle.stepping.specs.declared.access.Access.{Access}
-use Rattle.stepping.specs.declared.access.Next.{Next}
-use Rattle.stepping.specs.declared.access.Next.the-variants.{Go, Turn, End}
-use Rattle.stepping.specs.declared.access.Answer.the-variants as step
+use Rattle.transition.specs.declared.access.Access.{Access}
+use Rattle.transition.specs.declared.access.Next.{Next}
+use Rattle.transition.specs.declared.access.Next.the-variants.{Go, Turn, End}
+use Rattle.stepping.specs.declared.call.Answer.the-variants as step
 use Rattle.stepping.specs.declared.call.Admitted.{Admitted}
 use Rattle.stepping.specs.declared.call.Admitted.the-variants as admitted
 use Rattle.stepping.specs.declared.call.StartAnswer.the-variants as start
 use Rattle.stepping.specs.declared.call.BeginAnswer.the-variants as begin
 use Rattle.stepping.specs.declared.call.Begin.{Begin}
 use Rattle.records.specs.Record.{idleTask, readRecord}
-use Rattle.stepping.specs.Step.{planOf, touched, foundOf, cellInForm, usedInRange, nextOf, answerOf}
+use Rattle.transition.specs.Transition.{planOf, usedInRange, nextOf}
+use Rattle.stepping.specs.Step.{touched, foundOf, cellInForm, answerOf}
 use Rattle.stepping.specs.Call.{withRow, admitOf, Started, refuseStart, withCells, filled, startOf, admitStartOf, refuseBegin, beginFrom, beginIn, beginTask, Stepped, refuseStep, touch, stepFrom, stepIn, stepTask, taskAt, beginOf, stepOf}
 use Rattle.stepping.proofs.Lists.{set-held}
 
@@ -99,13 +100,13 @@ module _ (file cells : List ℕ) (n i : ℕ) (t : Task) where
   step-touch shape f a =
       choice StepKept (cellInForm shape n (touched a) (getD cells (touched a) 0)) _ _
       (choice StepKept (usedInRange file shape t (getD cells (touched a) 0) f) _ _
-      (record { same = λ reason e. absurd (accepts t (nextOf file shape i t f (foundOf (getD cells (touched a) 0) a)) reason e) })
+      (record { same = λ reason e. absurd (accepts t (nextOf file shape i (t .priority) t f (foundOf (getD cells (touched a) 0) a)) reason e) })
       (step-refused cause.Entry))
       (step-refused cause.Cell)
 
   step-from : (shape : Shape) (read : PhaseRead) → StepKept (stepFrom file shape cells n i t read)
   step-from shape (record-phase.Refused c) = step-refused c
-  step-from shape (record-phase.Known f) = choice StepKept (eqb (t .phase) 0) _ _ (step-refused cause.Idle) (step-touch shape f (planOf file shape i t f))
+  step-from shape (record-phase.Known f) = choice StepKept (eqb (t .phase) 0) _ _ (step-refused cause.Idle) (step-touch shape f (planOf file shape i (t .priority) t f))
 
   step-kept : (x : Admitted) → StepKept (stepIn file cells n i t x)
   step-kept (admitted.Refused c) = step-refused c

@@ -23,21 +23,26 @@ use Rattle.machine.specs.Run.{Config, Call, Begin, Step, Event, firstPhase, uns
 use Rattle.machine.specs.Form.{Formed}
 use Rattle.records.specs.declared.record.Task.{Task}
 use Rattle.records.specs.declared.phase.Phase.the-variants as phase
-use Rattle.stepping.specs.declared.access.Next.{Next}
+use Rattle.transition.specs.declared.access.Next.{Next}
 use Rattle.stepping.specs.declared.call.Begin as declared
 use Rattle.stepping.specs.declared.call.BeginAnswer.the-variants as opening
 use Rattle.stepping.specs.declared.call.Admitted.the-variants as admitted
 use Rattle.records.specs.Phase.{phaseNumber}
 use Rattle.records.specs.Record.{idleTask, readRecord}
-use Rattle.stepping.specs.Step.{nextOf, advanceOf, answerOf}
+use Rattle.transition.specs.Transition.{nextOf}
+use Rattle.transition.specs.Object.{ObjectTable, objectOf}
+use Rattle.transition.specs.Encoding.{kept, encodeTask, encodeAccess, encodeResult}
+use Rattle.transition.proofs.Plans.{plan-simulates}
+use Rattle.transition.proofs.Nexts.{next-simulates}
+use Rattle.stepping.specs.Step.{advanceOf, answerOf}
 use Rattle.stepping.specs.Call.{admitOf, Stepped, refuseStep, stepFrom, stepTask, stepOf, begunTask, refuseBegin, beginFrom, beginTask, beginOf, taskAt}
-use Rattle.stepping.specs.Encoding.{ObjectTable, objectOf, encodeCells, kept, encodeTask, encodeRow, stepAnswer, beginAnswer}
+use Rattle.stepping.specs.Encoding.{encodeCells, encodeRow, stepAnswer, beginAnswer}
 use Rattle.stepping.specs.Runs.{serveOf, runOf, historyOf, encodeConfig, encodeServed}
 use Rattle.stepping.proofs.Tables.{tabulate-length, tabulate-at, tabulate-set}
 use Rattle.stepping.proofs.Records.{pending-read, pending-number, idle-kept, idle-read}
-use Rattle.stepping.proofs.Accesses.{encodeAccess, encodeResult, cells-length, touched-in-form, result-simulates, perform-simulates}
-use Rattle.stepping.proofs.Plans.{plan-simulates, plan-formed, entry-in-range}
-use Rattle.stepping.proofs.Nexts.{next-simulates, advance-simulates, answer-simulates}
+use Rattle.stepping.proofs.Accesses.{cells-length, touched-in-form, result-simulates, perform-simulates}
+use Rattle.stepping.proofs.Planned.{plan-formed, entry-in-range}
+use Rattle.stepping.proofs.Advances.{advance-simulates, answer-simulates}
 use Rattle.stepping.specs.Statement.{accessOf as wordAccess}
 
 -- The ceiling of own steps with n tasks.
@@ -106,7 +111,7 @@ module _ (file : List ℕ) (shape : Shape) (table : ObjectTable file shape) (n :
         (plan-simulates file shape table n most i (c .task i .priority) (c .task i .operation) (c .task i .steps) below (c .task i .phase) (t .phase))
 
     abbrev nextIn : Next
-    nextIn = nextOf file shape i (encodeTask (c .task i)) (kept (c .task i .phase) .phase) (encodeResult (result accessOf (c .memory)))
+    nextIn = nextOf file shape i (c .task i .priority) (encodeTask (c .task i)) (kept (c .task i .phase) .phase) (encodeResult (result accessOf (c .memory)))
 
     step-served : i < n → off (kind (c .task i .phase)) ≡ false → stepTask file (encodeCells n (c .memory)) n i (encodeTask (c .task i)) ≡ record { cells = encodeCells n (perform accessOf (c .memory)); task = advanceOf n (encodeTask (c .task i)) nextIn; answer = answerOf (encodeTask (c .task i)) nextIn }
     step-served below e =

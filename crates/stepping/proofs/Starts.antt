@@ -23,7 +23,8 @@ use Rattle.machine.specs.Run.{start}
 use Rattle.records.specs.declared.record.Task.{Task}
 use Rattle.stepping.specs.declared.call.StartAnswer.the-variants as answer
 use Rattle.stepping.specs.Call.{withRow, idleRow, startOf, filled, withCells, admitStartOf}
-use Rattle.stepping.specs.Encoding.{tabulate, encodeCells, encodeTask, encodeRow}
+use Rattle.transition.specs.Encoding.{encodeTask}
+use Rattle.stepping.specs.Encoding.{tabulate, encodeCells, encodeRow}
 use Rattle.stepping.specs.Runs.{startStore, encodeConfig}
 use Rattle.stepping.proofs.Admission.{ceiling-ranges}
 use Rattle.stepping.proofs.Tables.{tabulate-replicate}

@@ -14,7 +14,7 @@ use Rattle.machine.specs.Demand.{Shown, Demand}
 use Rattle.machine.proofs.OwnSteps.{next-step}
 use Rattle.records.specs.declared.record.Task.{Task}
 use Rattle.stepping.specs.Statement.{Local, OneCell, Accepted, Demands, Refusals, Independent, Endings, objectIn}
-use Rattle.stepping.proofs.Accesses.{encodeAccess}
+use Rattle.transition.specs.Encoding.{encodeAccess}
 use Rattle.stepping.proofs.Demands.{demands, refused-started, history-started, answer-started, access-started, good}
 use Rattle.stepping.proofs.Local.{step-local, step-elsewhere}
 

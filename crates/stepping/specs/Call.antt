@@ -23,9 +23,9 @@ use Rattle.records.specs.declared.phase.Phase.{Phase}
 use Rattle.records.specs.declared.phase.Phase.the-variants as phase
 use Rattle.records.specs.declared.phase.PhaseRead.{PhaseRead}
 use Rattle.records.specs.declared.phase.PhaseRead.the-variants as record-phase
-use Rattle.stepping.specs.declared.access.Access.{Access}
-use Rattle.stepping.specs.declared.access.Answer.{Answer}
-use Rattle.stepping.specs.declared.access.Answer.the-variants as step
+use Rattle.transition.specs.declared.access.Access.{Access}
+use Rattle.stepping.specs.declared.call.Answer.{Answer}
+use Rattle.stepping.specs.declared.call.Answer.the-variants as step
 use Rattle.stepping.specs.declared.call.Admitted.{Admitted}
 use Rattle.stepping.specs.declared.call.Admitted.the-variants as admitted
 use Rattle.stepping.specs.declared.call.Start.{Start}
@@ -36,7 +36,8 @@ use Rattle.stepping.specs.declared.call.BeginAnswer.the-variants as begi
 use Rattle.stepping.specs.declared.call.Begin.{Begin}
 use Rattle.records.specs.Phase.{phaseNumber}
 use Rattle.records.specs.Record.{idleTask, readRecord}
-use Rattle.stepping.specs.Step.{planOf, touched, foundOf, performOf, cellInForm, usedInRange, nextOf, advanceOf, answerOf}
+use Rattle.transition.specs.Transition.{planOf, usedInRange, nextOf}
+use Rattle.stepping.specs.Step.{touched, foundOf, performOf, cellInForm, advanceOf, answerOf}
 
 -- ---- The answers' numbers: 0 if the call is accepted
 
@@ -155,7 +156,7 @@ refuseStep cells t c = record { cells = cells; task = t; answer = step.Refused c
 -- An accepted step makes its access; record and answer follow from the old record and what came back.
 abbrev pub served : List ℕ → Shape → List ℕ → (n i : ℕ) → Task → Phase → Access → Stepped
 served file shape cells n i t f a =
-    let x = nextOf file shape i t f (foundOf (getD cells (touched a) 0) a) in
+    let x = nextOf file shape i (t .priority) t f (foundOf (getD cells (touched a) 0) a) in
     record { cells = performOf cells a; task = advanceOf n t x; answer = answerOf t x }
 
 -- 12 on the touched cell, then 4 on the entry used.
@@ -168,7 +169,7 @@ touch file shape cells n i t f a =
 abbrev pub stepFrom : List ℕ → Shape → List ℕ → (n i : ℕ) → Task → PhaseRead → Stepped
 stepFrom file shape cells n i t (record-phase.Refused c) = refuseStep cells t c
 stepFrom file shape cells n i t (record-phase.Known f) =
-    cond (eqb (t .phase) 0) (refuseStep cells t cause.Idle) (touch file shape cells n i t f (planOf file shape i t f))
+    cond (eqb (t .phase) 0) (refuseStep cells t cause.Idle) (touch file shape cells n i t f (planOf file shape i (t .priority) t f))
 
 abbrev pub stepIn : List ℕ → List ℕ → (n i : ℕ) → Task → Admitted → Stepped
 stepIn file cells n i t (admitted.Refused c) = refuseStep cells t c

@@ -19,15 +19,16 @@ use Rattle.machine.specs.Demand.{Shown, Demand}
 use Rattle.records.specs.declared.record.Task.{Task}
 use Rattle.records.specs.declared.phase.PhaseRead.{PhaseRead}
 use Rattle.records.specs.declared.phase.PhaseRead.the-variants as record-phase
-use Rattle.stepping.specs.declared.access.Access.{Access}
-use Rattle.stepping.specs.declared.access.Access.the-variants.{Read, Write}
+use Rattle.transition.specs.declared.access.Access.{Access}
+use Rattle.transition.specs.declared.access.Access.the-variants.{Read, Write}
 use Rattle.stepping.specs.declared.call.Admitted.{Admitted}
 use Rattle.stepping.specs.declared.call.Admitted.the-variants as admitted
 use Rattle.stepping.specs.declared.call.StartAnswer.the-variants.{Started}
 use Rattle.records.specs.Record.{readRecord}
-use Rattle.stepping.specs.Step.{planOf, touched}
+use Rattle.transition.specs.Transition.{planOf}
+use Rattle.transition.specs.Object.{ObjectTable, objectOf}
+use Rattle.stepping.specs.Step.{touched}
 use Rattle.stepping.specs.Call.{admitOf, startOf, Stepped, stepTask, taskAt}
-use Rattle.stepping.specs.Encoding.{ObjectTable, objectOf}
 use Rattle.stepping.specs.Runs.{startStore, runOf, shownBy}
 
 -- ---- The access of a step, from the table, n and the record, before a cell is looked at; a call that makes none counts as
@@ -35,7 +36,7 @@ use Rattle.stepping.specs.Runs.{startStore, runOf, shownBy}
 
 abbrev pub accessFrom : List ℕ → Shape → ℕ → Task → PhaseRead → Access
 accessFrom file shape i t (record-phase.Refused c) = Read 0
-accessFrom file shape i t (record-phase.Known f) = planOf file shape i t f
+accessFrom file shape i t (record-phase.Known f) = planOf file shape i (t .priority) t f
 
 abbrev pub accessIn : List ℕ → (n i : ℕ) → Task → Admitted → Access
 accessIn file n i t (admitted.Refused c) = Read 0

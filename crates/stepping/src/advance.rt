@@ -1,11 +1,11 @@
 // The record and the answer of an accepted step.
-use crate::access::Answer;
-use crate::access::Next;
+use crate::call::Answer;
 use crate::call::Step;
 use records::phase;
 use records::phase::Phase;
 use records::record;
 use records::record::Task;
+use transition::access::Next;
 ghost use mathlib.Core.Path.{_≡_};
 ghost use Prim.Native.Nat.{_+_, _%_, _<_};
 ghost use Rattle.records.specs.Phase.{phaseNumber};

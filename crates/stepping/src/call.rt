@@ -1,9 +1,6 @@
 // The calls for one task, by value: the tests in their order, and what an accepted call does.
-use crate::access::Answer;
 use crate::advance;
-use crate::next;
 use crate::perform;
-use crate::plan;
 use cells::ceiling;
 use cells::ceiling::Ceiling;
 use records::phase;
@@ -14,13 +11,17 @@ use records::record::Task;
 use refusal::Refusal;
 use table::Checked;
 use table::Shape;
+use transition::entry;
+use transition::next;
+use transition::plan;
 ghost use mathlib.Core.Path.{_≡_};
 ghost use mathlib.Core.Bool.{cond};
 ghost use Prim.Native.Nat.{_≤_, _<_};
 ghost use lib.ListN.{length};
 ghost use Rattle.table.specs.Entries.{changing};
 ghost use Rattle.records.specs.Phase.{phaseNumber};
-ghost use Rattle.stepping.specs.Step.{touched, planOf};
+ghost use Rattle.transition.specs.Transition.{planOf};
+ghost use Rattle.stepping.specs.Step.{touched};
 ghost use Rattle.stepping.specs.Call.{withRow, admitOf, notGranted, admitStartOf, refuseBegin, begunTask, beginFrom, beginIn, beginTask, stepFrom, stepIn, stepTask};
 
 // What the tests that all calls share find: the table's shape and the ceiling of own steps, or the first cause.
@@ -50,6 +51,13 @@ pub enum BeginAnswer {
 pub struct Begin {
     pub task: Task,
     pub answer: BeginAnswer,
+}
+
+// What a step answers: running, ended with the response and the own steps since begin, or refused.
+pub enum Answer {
+    Running,
+    Ended { response: u16, steps: u32 },
+    Refused(Refusal),
 }
 
 // The record after a step, and the answer.
@@ -224,23 +232,25 @@ fn step_from(
     own: Task,
     phase: Phase,
 ) -> Step
-    requires { ⌜ (0 < tasks) × (tasks ≤ 8) × (task < tasks) × (own .priority < tasks) × (own .steps < 1000000) × (touched (planOf (now file) shape task own phase) < length (now cells)) ⌝ }
+    requires { ⌜ (0 < tasks) × (tasks ≤ 8) × (task < tasks) × (own .priority < tasks) × (own .steps < 1000000) × (touched (planOf (now file) shape task (own .priority) own phase) < length (now cells)) ⌝ }
     ensures { λ r. ⌜ record { cells = now (cells .exit); task = r .task; answer = r .answer } ≡ stepFrom (now (file .entry)) shape (now (cells .entry)) tasks task own (PhaseRead.Known phase) ⌝ }
 {
     if own.phase == 0 {
         return refuse_step(own, Refusal::Idle);
     }
-    let access = plan::plan(file, shape, task, own, phase);
+    let place = task as u8;
+    let first = own.priority as u8;
+    let access = plan::plan(file, shape, place, first, own, phase);
     let cell = perform::touched_by(access);
     let word = cells[cell];
     if !perform::cell_in_form(shape, tasks, cell, word) {
         return refuse_step(own, Refusal::Cell);
     }
-    if !perform::used_in_range(file, shape, own, word, phase) {
+    if !entry::used_in_range(file, shape, own, word, phase) {
         return refuse_step(own, Refusal::Entry);
     }
     let found = perform::perform(cells, access);
-    let next = next::next(file, shape, task, own, phase, found);
+    let next = next::next(file, shape, place, first, own, phase, found);
     advance::advance(tasks, own, next)
 }
 

@@ -1,8 +1,4 @@
-// One task's part of a call, by value: the tests, the one access of a step, and what follows from it.
-pub mod access;
+// One task's part of a call, by value: the tests, the one access of a step, and the record and answer that follow from it.
 mod advance;
 pub mod call;
-mod next;
 mod perform;
-mod plan;
-mod words;

@@ -1,16 +1,12 @@
-// The access of a step: the cell that it touches, the tests of cell and entry, and the access itself.
-use crate::access::Access;
-use crate::access::Found;
-use crate::words;
+// The access of a step: the cell that it touches, the test of that cell, and the access itself.
 use cells::form;
-use cells::head;
-use records::phase::Phase;
-use records::record::Task;
 use table::Shape;
+use transition::access::Access;
+use transition::access::Found;
 ghost use mathlib.Core.Path.{_≡_};
 ghost use Prim.Native.Nat.{_<_};
 ghost use lib.ListN.{length, getD};
-ghost use Rattle.stepping.specs.Step.{touched, foundOf, performOf, cellInForm, usedInRange};
+ghost use Rattle.stepping.specs.Step.{touched, foundOf, performOf, cellInForm};
 
 // The cell that an access touches.
 pub fn touched_by(access: Access) -> usize
@@ -35,23 +31,6 @@ pub fn cell_in_form(shape: Shape, tasks: usize, cell: usize, word: u64) -> bool
         return form::head_in_form(word, shape.states as u32, tasks);
     }
     form::announcement_in_form(word, shape.operations as u32, tasks)
-}
-
-// Whether the one entry that a step uses is in range, if it uses one.
-pub fn used_in_range(file: &[u8], shape: Shape, own: Task, word: u64, phase: Phase) -> bool
-    ensures { λ r. ⌜ r ≡ usedInRange (now (file .entry)) shape own word phase ⌝ }
-{
-    match phase {
-        Phase::ReadOnly => {
-            let state = words::state_in(head::read_head(word));
-            table::entry_in_range(file, shape, state, own.operation)
-        }
-        Phase::Apply(_) => {
-            let state = words::state_in(head::read_head(own.head));
-            table::entry_in_range(file, shape, state, words::named_by(own.payload))
-        }
-        _ => true,
-    }
 }
 
 // Makes an access; every cell but the touched one stays as it was.

@@ -41,9 +41,9 @@ use denote.Exit.{yes}
 use Rattle.drive.proofs.Values.{slice, OwnFile}
 use Rattle.records.specs.declared.record.Task.{Task}
 use Rattle.records.proofs.record.Task as T
-use Rattle.stepping.specs.declared.access.Answer.{Answer}
-use Rattle.stepping.proofs.access.Answer as N
-use Rattle.stepping.proofs.access.Answer.Laws as N′
+use Rattle.stepping.specs.declared.call.Answer.{Answer}
+use Rattle.stepping.proofs.call.Answer as N
+use Rattle.stepping.proofs.call.Answer.Laws as N′
 use Rattle.drive.proofs.Calls.{StepSaid, IdleStepSaid, step-past}
 use Rattle.drive.proofs.step_past as past-end
 use Rattle.drive.proofs.step_past.Symbol as past-end-def

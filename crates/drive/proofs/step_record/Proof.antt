@@ -47,9 +47,9 @@ use Rattle.drive.proofs.TaskCalls.{StepCall, StepAnswered, step-answere
 use Rattle.records.specs.declared.record.Task.{Task}
 use Rattle.records.proofs.record.Task as T
 use Rattle.records.proofs.record.Task.Laws as T′
-use Rattle.stepping.specs.declared.access.Answer.{Answer}
-use Rattle.stepping.proofs.access.Answer as N
-use Rattle.stepping.proofs.access.Answer.Laws as N′
+use Rattle.stepping.specs.declared.call.Answer.{Answer}
+use Rattle.stepping.proofs.call.Answer as N
+use Rattle.stepping.proofs.call.Answer.Laws as N′
 use Rattle.stepping.specs.declared.call.Step.{Step}
 use Rattle.stepping.proofs.call.Step as O
 use Rattle.stepping.proofs.call.Step.Laws as O′

@@ -51,9 +51,9 @@ use Rattle.drive.proofs.Values.{slice, OwnFile}
 use Rattle.records.specs.declared.record.Task.{Task}
 use Rattle.records.proofs.record.Task as T
 use Rattle.records.proofs.record.Task.Laws as T′
-use Rattle.stepping.specs.declared.access.Answer.{Answer}
-use Rattle.stepping.proofs.access.Answer as N
-use Rattle.stepping.proofs.access.Answer.Laws as N′
+use Rattle.stepping.specs.declared.call.Answer.{Answer}
+use Rattle.stepping.proofs.call.Answer as N
+use Rattle.stepping.proofs.call.Answer.Laws as N′
 use Rattle.drive.specs.declared.first.StepFirst.{StepFirst}
 use Rattle.drive.proofs.first.StepFirst as O
 use Rattle.drive.proofs.first.StepFirst.Laws as O′

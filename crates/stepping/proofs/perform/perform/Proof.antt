@@ -3,7 +3,7 @@ use mathlib.Core.Path.{refl, sym, subst}
 use Prim.Native.Nat.{_<_}
 use borrow.Author.Tests.{eq-eqb, ne-eqb}
 use lib.ListN.{length}
-use Rattle.stepping.specs.declared.access.Access.{Access}
+use Rattle.transition.specs.declared.access.Access.{Access}
 use Rattle.stepping.specs.Step.{touched, performOf}
 use Rattle.stepping.proofs.Lists.{set-held}
 use borrow.Author.Needs.{needs, scaled-fits}

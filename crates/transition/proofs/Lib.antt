@@ -1,0 +1,4 @@
+mod Defaults
+pub mod EncodedCells
+pub mod Plans
+pub mod Nexts

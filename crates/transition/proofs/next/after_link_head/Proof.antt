@@ -1,0 +1,39 @@
+use borrow.Author.Tests.{not-false, not-true}
+use borrow.Author.Needs.{needs}
+use Rattle.transition.proofs.next.after_link_head.Statement.{statement}
+use Rattle.transition.proofs.next.after_link_head.Tie as tie
+
+to-requires : tie.Need-to-requires
+to-requires c κs = search needs
+
+returns : tie.Need-returns
+returns c = simp (c .to .ensures, not-true (c .before .before .args .made) (c .before .if1 .taken))
+
+add-mark-requires : tie.Need-add-mark-requires
+add-mark-requires c κs = search needs
+
+read-head-requires : tie.Need-read-head-requires
+read-head-requires c κs = search needs
+
+after-link-requires : tie.Need-after-link-requires
+after-link-requires c κs = search needs
+
+returns-2 : tie.Need-returns-2
+returns-2 c =
+    simp (
+      c .after-link .ensures,
+      c .before .read-head .ensures,
+      c .before .before .add-mark .ensures,
+      not-false (c .before .before .before .before .args .made) (c .before .before .before .if1 .left),
+    )
+
+pub after-link-head-spec : {M : Type 1} → statement M
+after-link-head-spec =
+    tie.close
+    (tie.spec
+    to-requires
+    returns
+    add-mark-requires
+    read-head-requires
+    after-link-requires
+    returns-2)

@@ -1,0 +1,3 @@
+pub mod Transition
+pub mod Object
+pub mod Encoding
