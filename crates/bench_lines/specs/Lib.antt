@@ -1,4 +1,2 @@
 pub mod Command
 pub mod Line
-pub mod Run
-pub mod Session

@@ -1,8 +1,4 @@
-// The bench: what its input lines mean, the run that they are served on, and the lines that it prints.
+// The lines of the bench: what a line of input means, and the lines that are printed.
 pub mod command;
-pub mod input;
-mod output;
 pub mod reply;
-pub mod run;
-pub mod session;
 pub mod text;

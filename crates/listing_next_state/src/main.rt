@@ -1,3 +1,3 @@
 fn main() {
-    bench_lines::input::serve_all();
+    bench_session::input::serve_all();
 }
