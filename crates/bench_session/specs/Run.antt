@@ -20,7 +20,7 @@ use Rattle.records.specs.declared.record.Task.{Task}
 use Rattle.stepping.specs.Call as call
 use Rattle.stepping.specs.Call.{Started, Begun}
 use Rattle.records.specs.Record.{idleTask}
-use Rattle.drive.specs.First.{startFirst, beginFirst, stepFirst}
+use Rattle.bench_row.specs.First.{startFirst, beginFirst, stepFirst}
 use Rattle.bench_lines.specs.declared.command.Command.{Command}
 use Rattle.bench_lines.specs.declared.command.Command.the-variants as command
 use Rattle.bench_lines.specs.declared.reply.Reply.{Reply}

@@ -3,7 +3,6 @@ use bench_lines::command::Command;
 use bench_lines::reply;
 use bench_lines::reply::Reply;
 use bench_lines::reply::Text;
-use drive::first;
 use records::record;
 use records::record::Task;
 use refusal::Refusal;
@@ -84,7 +83,7 @@ fn start_held(file: &[u8], cells: [u64; 9], row: [Task; 9], tasks: usize) -> Ope
 {
     let lent = cell_count(tasks);
     let mut held = cells;
-    let started = first::start_first(file, &mut held[..lent], row, tasks);
+    let started = bench_row::start_first(file, &mut held[..lent], row, tasks);
     let filled = started.row;
     let answer = started.answer;
     Opened {
@@ -143,7 +142,7 @@ fn begin(file: &[u8], bench: Bench, task: u16, operation: u16) -> Served
     let cells = bench.cells;
     let row = bench.row;
     let tasks = bench.tasks;
-    let begun = first::begin_first(file, row, tasks, task as usize, operation as usize);
+    let begun = bench_row::begin_first(file, row, tasks, task as usize, operation as usize);
     let changed = begun.row;
     let answer = begun.answer;
     Served {
@@ -162,7 +161,7 @@ fn step_held(file: &[u8], cells: [u64; 9], row: [Task; 9], tasks: usize, task: u
 {
     let lent = cell_count(tasks);
     let mut held = cells;
-    let stepped = first::step_first(file, &mut held[..lent], row, tasks, task);
+    let stepped = bench_row::step_first(file, &mut held[..lent], row, tasks, task);
     let changed = stepped.row;
     let answer = stepped.answer;
     Stepped {

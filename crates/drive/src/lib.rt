@@ -1,6 +1,4 @@
 // The calls on a lent row of task records: start fills it, begin and step take one record out and put it back.
-pub mod first;
-
 use records::record;
 use records::record::Task;
 use stepping::call;

@@ -4,7 +4,7 @@ use Prim.Native.Nat.{ℕ}
 use native.Mathlib.Omega.{arith}
 use lib.ListN.{take}
 use lib.Seq.{length-take-le}
-use Rattle.drive.specs.First.{startFirst}
+use Rattle.bench_row.specs.First.{startFirst}
 use Rattle.bench_session.specs.Run.{startAfter, startHeld}
 use Rattle.bench_session.proofs.run.start_held.Statement.{statement}
 use Rattle.bench_session.proofs.run.start_held.Tie as tie

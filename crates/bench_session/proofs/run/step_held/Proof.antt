@@ -4,7 +4,7 @@ use Prim.Native.Nat.{ℕ}
 use native.Mathlib.Omega.{arith}
 use lib.ListN.{take}
 use lib.Seq.{length-take-le}
-use Rattle.drive.specs.First.{stepFirst}
+use Rattle.bench_row.specs.First.{stepFirst}
 use Rattle.bench_session.specs.Run.{heldAfter, stepHeld}
 use Rattle.bench_session.proofs.run.step_held.Statement.{statement}
 use Rattle.bench_session.proofs.run.step_held.Tie as tie

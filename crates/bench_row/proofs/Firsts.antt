@@ -23,9 +23,9 @@ use Rattle.stepping.specs.declared.call.BeginAnswer.{BeginAnswer}
 use Rattle.stepping.specs.declared.call.BeginAnswer.the-variants as begin
 use Rattle.stepping.specs.Call.{withRow, Started, withCells, admitStartOf, startOf, Begun, beginOf, Served, stepOf}
 use Rattle.stepping.proofs.Refused.{refused-start, refused-begin-row, refused-step-row}
-use Rattle.drive.specs.First.{firstCount, startFirst, beginFirst, stepFirst}
+use Rattle.bench_row.specs.First.{firstCount, startFirst, beginFirst, stepFirst}
 use Rattle.drive.proofs.Calls.{BeginSaid, StepSaid}
 use Rattle.drive.proofs.Starts.{StartSaid}
 
 -- ---- How many records are lent
 

@@ -1,4 +1,4 @@
--- `drive::first::begin_first` meets its contract: a walk of its MIR, by hand. The first of the nine records are lent to `begin` for a lifetime that is made for
+-- `bench_row::begin_first` meets its contract: a walk of its MIR, by hand. The first of the nine records are lent to `begin` for a lifetime that is made for
 -- the call; they come back and are put together with the others.
 -- Assumes nothing.
 use mathlib.Core.Path.{_≡_, refl, ap, sym, _∙_}
@@ -47,37 +47,37 @@ use denote.Triple.Clauses.{ensured, lasts}
 use denote.Triple.Table.{entered, cited}
 use denote.Triple.Walked.{says, Stays, stay-none, stay-none-slice, walkOf, AllGo, goes-none, goes-none-slice, Walks, ends-at, walked, walk-meets}
 use denote.Exit.{yes}
 use Rattle.drive.proofs.Values.{slice, OwnFile}
 use Rattle.records.specs.declared.record.Task.{Task}
 use Rattle.records.proofs.record.Task as T
 use Rattle.records.proofs.record.Task.Laws as T′
 use Rattle.stepping.specs.declared.call.BeginAnswer.{BeginAnswer}
 use Rattle.stepping.proofs.call.BeginAnswer as N
 use Rattle.stepping.proofs.call.BeginAnswer.Laws as N′
-use Rattle.drive.specs.declared.first.BeginFirst.{BeginFirst}
-use Rattle.drive.proofs.first.BeginFirst as O
-use Rattle.drive.proofs.first.BeginFirst.Laws as O′
+use Rattle.bench_row.specs.declared.BeginFirst.{BeginFirst}
+use Rattle.bench_row.proofs.BeginFirst as O
+use Rattle.bench_row.proofs.BeginFirst.Laws as O′
 use Rattle.stepping.specs.Call.{Begun}
-use Rattle.drive.specs.First.{firstCount, beginFirst}
+use Rattle.bench_row.specs.First.{firstCount, beginFirst}
 use Rattle.drive.proofs.Calls.{BeginSaid}
-use Rattle.drive.proofs.Firsts.{first-few, begin-first}
-use Rattle.drive.proofs.Lent.{machs, Nine, lie, whole-at, parted, joined}
-use Rattle.drive.proofs.first.first_count as count
-use Rattle.drive.proofs.first.first_count.Symbol as count-def
-use Rattle.drive.proofs.first.first_count.Symbol.{name as #drive·first·first-count}
-use Rattle.drive.proofs.first.first_count.Met as count-thm
+use Rattle.bench_row.proofs.Firsts.{first-few, begin-first}
+use Rattle.bench_row.proofs.Lent.{machs, Nine, lie, whole-at, parted, joined}
+use Rattle.bench_row.proofs.first_count as count
+use Rattle.bench_row.proofs.first_count.Symbol as count-def
+use Rattle.bench_row.proofs.first_count.Symbol.{name as #bench-row·first-count}
+use Rattle.bench_row.proofs.first_count.Met as count-thm
 use Rattle.drive.proofs.begin as core
 use Rattle.drive.proofs.begin.Symbol as core-def
 use Rattle.drive.proofs.begin.Symbol.{name as #drive·begin}
 use Rattle.drive.proofs.begin.Met as core-thm
-use Rattle.drive.proofs.first.after_begin as after
-use Rattle.drive.proofs.first.after_begin.Symbol as after-def
-use Rattle.drive.proofs.first.after_begin.Symbol.{name as #drive·first·after-begin}
-use Rattle.drive.proofs.first.after_begin.Met as after-thm
-use Rattle.drive.proofs.first.begin_first.Key.{name as #drive·first·begin-first}
-use Rattle.drive.proofs.first.begin_first as fn
-use Rattle.drive.proofs.first.begin_first.Statement as stated
-use Rattle.drive.proofs.first.begin_first.Code as code
+use Rattle.bench_row.proofs.after_begin as after
+use Rattle.bench_row.proofs.after_begin.Symbol as after-def
+use Rattle.bench_row.proofs.after_begin.Symbol.{name as #bench-row·after-begin}
+use Rattle.bench_row.proofs.after_begin.Met as after-thm
+use Rattle.bench_row.proofs.begin_first.Key.{name as #bench-row·begin-first}
+use Rattle.bench_row.proofs.begin_first as fn
+use Rattle.bench_row.proofs.begin_first.Statement as stated
+use Rattle.bench_row.proofs.begin_first.Code as code
 
 abbrev Arg : Type 0
 Arg = RefT (List ℕ) × (List Task × (ℕ × (ℕ × (ℕ × Unit {0}))))
@@ -164,7 +164,7 @@ module _ {M : Type 1} (𝓤 : URA M) (H : Heap 𝓤) (A : Atoms 𝓤) (W : Given
       qed W [] ∵ nothing ! $ owned ! N.the-row (Is N.the-row) (EL.makes N.the-type N′.the-plain 𝓤 H A) a (v ∷ []) is $ fjoin ! $
       owned ! (Array T.the-row 9) (Is (Array T.the-row 9)) (array-makes 𝓤 H A W T.the-row (LL.makes T.the-type T′.the-plain 𝓤 H A) 9) zs (machs zs ∷ []) nine $ fjoin ! $ nothing ! $ join ! $ frame ! $ done !
 
-  module _ (C : Calls 𝓤 H) (Λ : Loops 𝓤 H) (fm : FmC 𝓤 H (W .laws) C) (known-n : Triple 𝓤 (C #drive·first·first-count) (Count 𝓤 H A at-mem run)) (known-c : Triple 𝓤 (C #drive·begin) (Core 𝓤 H A at-mem run)) (known-o : Triple 𝓤 (C #drive·first·after-begin) (After 𝓤 H A at-mem run)) where
+  module _ (C : Calls 𝓤 H) (Λ : Loops 𝓤 H) (fm : FmC 𝓤 H (W .laws) C) (known-n : Triple 𝓤 (C #bench-row·first-count) (Count 𝓤 H A at-mem run)) (known-c : Triple 𝓤 (C #drive·begin) (Core 𝓤 H A at-mem run)) (known-o : Triple 𝓤 (C #bench-row·after-begin) (After 𝓤 H A at-mem run)) where
     walk : Room u8 (length (file .now)) → Nine xs → length xs ≡ 9 → n < 2 ^ 64 → t < 2 ^ 64 → w < 2 ^ 64
         → ent 𝓤 (onEntry 𝓤 H A fn.signature (κ₀, tt) (q₀, tt) x at) (WpFn 𝓤 H C Λ code.function (slice file ∷ machs xs ∷ vint w64 n ∷ vint w64 t ∷ vint w64 w ∷ []) Post)
     walk room₀ nine long gn gt gw =
@@ -226,7 +226,7 @@ module _ {M : Type 1} (𝓤 : URA M) (H : Heap 𝓤) (A : Atoms 𝓤) (W : Given
         free0 ! $ keep ! (2 ∷ 3 ∷ 0 ∷ []) $ by ! (exits r v₂ (begin-first (file .now) xs n m t w (zs .1 .0) a (r .row) (r .answer) em e (eo .0) (eo .1)) nine gn gt gw))))))))))))))))))))))))))))))
 
 module _ {M : Type 1} (𝓤 : URA M) (H : Heap 𝓤) (A : Atoms 𝓤) (W : Given 𝓤 H A) (at-mem : Memory → SProp 𝓤) (run : Routine → Fun 𝓤) where
-  fn-walks : (C : Calls 𝓤 H) (Λ : Loops 𝓤 H) → FmC 𝓤 H (W .laws) C → Triple 𝓤 (C #drive·first·first-count) (Count 𝓤 H A at-mem run) → Triple 𝓤 (C #drive·begin) (Core 𝓤 H A at-mem run) → Triple 𝓤 (C #drive·first·after-begin) (After 𝓤 H A at-mem run)
+  fn-walks : (C : Calls 𝓤 H) (Λ : Loops 𝓤 H) → FmC 𝓤 H (W .laws) C → Triple 𝓤 (C #bench-row·first-count) (Count 𝓤 H A at-mem run) → Triple 𝓤 (C #drive·begin) (Core 𝓤 H A at-mem run) → Triple 𝓤 (C #bench-row·after-begin) (After 𝓤 H A at-mem run)
       → Walks 𝓤 H A fn.ended stayed (WpFn 𝓤 H C Λ code.function) (fn.clauses 𝓤 H A at-mem run)
   fn-walks C Λ fm known-n known-c known-o =
       walked 𝓤 H A fn.ended stayed (fn.clauses 𝓤 H A at-mem run) (WpFn 𝓤 H C Λ code.function) (λ κs. (slice-vals, (array-vals (LL.vals T.the-type T′.the-laws), (uint-vals w64, (uint-vals w64, (uint-vals w64, tt))))))
@@ -238,7 +238,7 @@ module _ {M : Type 1} (𝓤 : URA M) (H : Heap 𝓤) (A : Atoms 𝓤) (W : Given
   goes : AllGo 𝓤 H A W 1 (fn.signature .params) (fn.ended .kept) stayed
   goes = (goes-none-slice 𝓤 H A W 1 (0 ∷ []) tt (plain (λ _. u8)) yes, (goes-none 𝓤 H A W 1 (λ _. Array T.the-row 9) yes (λ κs x f. refl), (goes-none 𝓤 H A W 1 (λ _. usize) yes (λ κs x f. refl), (goes-none 𝓤 H A W 1 (λ _. usize) yes (λ κs x f. refl), (goes-none 𝓤 H A W 1 (λ _. usize) yes (λ κs x f. refl), tt)))))
 
-fn-meets : {M : Type 1} (𝓤 : URA M) (H : Heap 𝓤) (A : Atoms 𝓤) (W : Given 𝓤 H A) (at-mem : Memory → SProp 𝓤) (run : Routine → Fun 𝓤) (𝓣 : Tables 𝓤 H) → Triple 𝓤 (𝓣 .C #drive·first·first-count) (Count 𝓤 H A at-mem run) → Triple 𝓤 (𝓣 .C #drive·begin) (Core 𝓤 H A at-mem run) → Triple 𝓤 (𝓣 .C #drive·first·after-begin) (After 𝓤 H A at-mem run)
+fn-meets : {M : Type 1} (𝓤 : URA M) (H : Heap 𝓤) (A : Atoms 𝓤) (W : Given 𝓤 H A) (at-mem : Memory → SProp 𝓤) (run : Routine → Fun 𝓤) (𝓣 : Tables 𝓤 H) → Triple 𝓤 (𝓣 .C #bench-row·first-count) (Count 𝓤 H A at-mem run) → Triple 𝓤 (𝓣 .C #drive·begin) (Core 𝓤 H A at-mem run) → Triple 𝓤 (𝓣 .C #bench-row·after-begin) (After 𝓤 H A at-mem run)
     → Meets 𝓤 H A fn.signature (WpFn 𝓤 H (𝓣 .C) (𝓣 .Λ) code.function) (fn.spec 𝓤 H A at-mem run)
 fn-meets 𝓤 H A W at-mem run 𝓣 known-n known-c known-o =
     walk-meets 𝓤 H A fn.ended stayed W (goes 𝓤 H A W at-mem run) (fn.clauses 𝓤 H A at-mem run) (WpFn 𝓤 H (𝓣 .C) (𝓣 .Λ) code.function) (WpFn-mono 𝓤 H (W .laws) 𝓣 code.function)
@@ -248,8 +248,8 @@ pub begin-first-spec : {M : Type 1} → stated.statement M
 unfolding code.routine tablesOf
 begin-first-spec 𝓤 H 𝓜 𝓖 𝓡 =
     entered 𝓤 H (tripleOf 𝓤 H (𝓖 .A) fn.signature (fn.spec 𝓤 H (𝓖 .A) (𝓜 .mem) (𝓡 .run)))
-    (tables 𝓤 H 𝓜 𝓡 code.env .C) (tables 𝓤 H 𝓜 𝓡 code.env .Λ) #drive·first·begin-first code.function (code.unfolded 𝓤 H 𝓜 𝓡)
+    (tables 𝓤 H 𝓜 𝓡 code.env .C) (tables 𝓤 H 𝓜 𝓡 code.env .Λ) #bench-row·begin-first code.function (code.unfolded 𝓤 H 𝓜 𝓡)
     (fn-meets 𝓤 H (𝓖 .A) (givenOf 𝓤 H 𝓜 𝓖) (𝓜 .mem) (𝓡 .run) (tablesOf 𝓤 H 𝓜 (tables 𝓤 H 𝓜 𝓡 code.env))
-    (cited 𝓤 H (Count 𝓤 H (𝓖 .A) (𝓜 .mem) (𝓡 .run)) 𝓜 𝓡 code.env #drive·first·first-count count-def.routine code.calls-drive·first·first-count (count-thm.met 𝓤 H 𝓜 𝓖 𝓡))
+    (cited 𝓤 H (Count 𝓤 H (𝓖 .A) (𝓜 .mem) (𝓡 .run)) 𝓜 𝓡 code.env #bench-row·first-count count-def.routine code.calls-bench-row·first-count (count-thm.met 𝓤 H 𝓜 𝓖 𝓡))
     (cited 𝓤 H (Core 𝓤 H (𝓖 .A) (𝓜 .mem) (𝓡 .run)) 𝓜 𝓡 code.env #drive·begin core-def.routine code.calls-drive·begin (core-thm.met 𝓤 H 𝓜 𝓖 𝓡))
-    (cited 𝓤 H (After 𝓤 H (𝓖 .A) (𝓜 .mem) (𝓡 .run)) 𝓜 𝓡 code.env #drive·first·after-begin after-def.routine code.calls-drive·first·after-begin (after-thm.met 𝓤 H 𝓜 𝓖 𝓡)))
+    (cited 𝓤 H (After 𝓤 H (𝓖 .A) (𝓜 .mem) (𝓡 .run)) 𝓜 𝓡 code.env #bench-row·after-begin after-def.routine code.calls-bench-row·after-begin (after-thm.met 𝓤 H 𝓜 𝓖 𝓡)))

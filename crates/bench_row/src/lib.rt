@@ -4,7 +4,7 @@ use stepping::call::Answer;
 use stepping::call::BeginAnswer;
 use stepping::call::StartAnswer;
 ghost use mathlib.Core.Path.{_≡_};
-ghost use Rattle.drive.specs.First.{firstCount, startFirst, beginFirst, stepFirst};
+ghost use Rattle.bench_row.specs.First.{firstCount, startFirst, beginFirst, stepFirst};
 
 // The most records that are lent; a row of nine is refused as a longer one is.
 const MOST: usize = 9;
@@ -61,7 +61,7 @@ pub fn start_first(file: &[u8], cells: &mut [u64], row: [Task; 9], tasks: usize)
 {
     let count = first_count(tasks);
     let mut held = row;
-    let answer = crate::start(file, cells, &mut held[..count]);
+    let answer = drive::start(file, cells, &mut held[..count]);
     after_start(held, answer)
 }
 
@@ -77,7 +77,7 @@ pub fn begin_first(
 {
     let count = first_count(tasks);
     let mut held = row;
-    let answer = crate::begin(file, &mut held[..count], task, operation);
+    let answer = drive::begin(file, &mut held[..count], task, operation);
     after_begin(held, answer)
 }
 
@@ -93,6 +93,6 @@ pub fn step_first(
 {
     let count = first_count(tasks);
     let mut held = row;
-    let answer = crate::step(file, cells, &mut held[..count], task);
+    let answer = drive::step(file, cells, &mut held[..count], task);
     after_step(held, answer)
 }
