@@ -3,9 +3,8 @@ use mathlib.Core.Path.{_≡_, refl, ap, sym, _∙_}
 use mathlib.Core.Bool.{Bool, true, false}
 use Prim.Native.Nat.{ℕ, _+_, _-_, _/_, _%_, _^_, _<_, _≤_}
 use native.Mathlib.Omega.{arith}
-use borrow.Author.Tests.{ltb-true, lt-ltb, ne-eqb}
-use lib.Dec.{eqb, ltb}
-use lib.Pow.{pow-pos}
+use borrow.Author.Tests.{ltb-true, lt-ltb}
+use lib.Dec.{ltb}
 use Rattle.cells.specs.Layout.{marksWidth, value, marks, markOf, hasMark, addMark, removeMark}
 use Rattle.cells.specs.Marks.{pick, none, has, add, remove}
 use Rattle.cells.specs.MarkLaws.{SetsBit, place-below, has-none, has-low, set-high, set-low, add-below}
@@ -24,16 +23,8 @@ module _ (i w : ℕ) (h : i < marksWidth) where
   unfolding removeMark
   remove-mark = simp (lt-ltb i marksWidth h)
 
--- Each of the three by the place value of the mark.
+-- Link and release by the place value of the mark.
 module _ (i w : ℕ) where
-  pub has-by-place : hasMark i w ≡ pick (eqb (markOf i) 0) false (eqb (w / markOf i % 2) 1)
-  unfolding hasMark markOf has
-  has-by-place = at (ltb i marksWidth) refl
-    where
-      at : (b : Bool) → ltb i marksWidth ≡ b → hasMark i w ≡ pick (eqb (markOf i) 0) false (eqb (w / markOf i % 2) 1)
-      at true e = simp (e, ne-eqb (2 ^ i) 0 (λ z. omega (arith, pow-pos i)))
-      at false e = simp e
-
   pub add-by-place : addMark i w ≡ pick (hasMark i w) w (w + markOf i)
   unfolding addMark hasMark markOf add
   add-by-place = at (ltb i marksWidth) refl

@@ -6,9 +6,6 @@ ghost use Rattle.cells.specs.Layout.{value, marks, markOf, hasMark, addM
 // The marks that a conditional store leaves.
 pub const NO_MARKS: u8 = 0;
 
-// The place value of each task's mark.
-const MARK_PLACES: [u64; 8] = [1, 2, 4, 8, 16, 32, 64, 128];
-
 // The word without its marks.
 pub fn value_of(word: u64) -> u64
     ensures { λ r. ⌜ r ≡ value word ⌝ }
@@ -28,7 +25,7 @@ pub fn mark_of(task: usize) -> u64
     ensures { λ r. ⌜ r ≡ markOf task ⌝ }
 {
     if task < layout::MARK_COUNT {
-        return MARK_PLACES[task];
+        return 1 << task;
     }
     0
 }
@@ -37,11 +34,10 @@ pub fn mark_of(task: usize) -> u64
 pub fn has_mark(word: u64, task: usize) -> bool
     ensures { λ r. ⌜ r ≡ hasMark task word ⌝ }
 {
-    let mark = mark_of(task);
-    if mark == 0 {
+    if task >= layout::MARK_COUNT {
         return false;
     }
-    word / mark % 2 == 1
+    (word >> task) % 2 == 1
 }
 
 // Link: the word with a task's mark.

@@ -1,20 +1,21 @@
-use borrow.Author.Tests.{eq-eqb, ne-eqb}
+use native.Mathlib.Omega.{arith}
+use borrow.Author.Tests.{lt-ltb, le-ltb}
 use borrow.Author.Needs.{needs}
-use Rattle.cells.proofs.WordMarks.{has-by-place}
+use Rattle.cells.specs.Marks.{has}
+use Rattle.cells.specs.Layout.{marksWidth, hasMark}
 use Rattle.cells.proofs.marks.has_mark.Statement.{statement}
 use Rattle.cells.proofs.marks.has_mark.Tie as tie
 
-mark-of-requires : tie.Need-mark-of-requires
-mark-of-requires c κs = search needs
-
 returns : tie.Need-returns
-returns c = rw (has-by-place, ← c .before .mark-of .ensures, eq-eqb _ _ (c .if1 .taken))
+unfolding hasMark
+returns c = simp (le-ltb (c .before .args .task) marksWidth (omega arith))
 
-div-result : tie.Need-div-result
-div-result c = search needs
+shr-result : tie.Need-shr-result
+shr-result c = search needs
 
 returns-2 : tie.Need-returns-2
-returns-2 c = rw (has-by-place, ← c .before .mark-of .ensures, ne-eqb _ _ (c .if1 .left))
+unfolding hasMark has
+returns-2 c = simp (lt-ltb (c .before .args .task) marksWidth (omega arith))
 
 pub has-mark-spec : {M : Type 1} → statement M
-has-mark-spec = tie.close (tie.spec mark-of-requires returns div-result returns-2)
+has-mark-spec = tie.close (tie.spec returns shr-result returns-2)
