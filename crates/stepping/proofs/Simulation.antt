@@ -64,7 +64,7 @@ module _ (file : List ℕ) (shape : Shape) (table : ObjectTable file shape) (n :
   object = objectOf file shape table
 
   -- The tests that all calls share are passed.
-  admits : admitOf file n ≡ admitted.Accepted shape (ceiling n)
+  admits : admitOf file n ≡ admitted.Accepted (ceiling n) shape
   unfolding admitOf
   admits = rw (accepted-parts file shape (table .accepted) .0, ceiling-cubed n some most)
 
