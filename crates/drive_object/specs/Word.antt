@@ -6,8 +6,8 @@ use Rattle.cells.specs.declared.ceiling.Ceiling.{Ceiling}
 use Rattle.cells.specs.declared.ceiling.Ceiling.the-variants as ceiling
 use Rattle.table.specs.declared.Checked.{Checked}
 use Rattle.table.specs.declared.Checked.the-variants as table
-use Rattle.transition.specs.declared.access.Answer.{Answer}
-use Rattle.transition.specs.declared.access.Answer.the-variants as step
+use Rattle.stepping.specs.declared.call.Answer.{Answer}
+use Rattle.stepping.specs.declared.call.Answer.the-variants as step
 use Rattle.stepping.specs.declared.call.StartAnswer.{StartAnswer}
 use Rattle.stepping.specs.declared.call.StartAnswer.the-variants as start
 use Rattle.stepping.specs.declared.call.BeginAnswer.{BeginAnswer}

@@ -38,9 +38,9 @@ use denote.Triple.Walked.{says, Stays, gave-slice, stay-none, stay-none-slice, w
 use denote.Exit.{yes}
 use Rattle.records.specs.declared.record.Task.{Task}
 use Rattle.records.proofs.record.Task as T
-use Rattle.transition.specs.declared.access.Answer.{Answer}
-use Rattle.transition.proofs.access.Answer as N
-use Rattle.transition.proofs.access.Answer.Laws as N′
+use Rattle.stepping.specs.declared.call.Answer.{Answer}
+use Rattle.stepping.proofs.call.Answer as N
+use Rattle.stepping.proofs.call.Answer.Laws as N′
 use Rattle.stepping.specs.Call.{Served, stepOf}
 use Rattle.drive.proofs.Values.{slice, OwnFile}
 use Rattle.drive.proofs.Calls.{StepSaid}
