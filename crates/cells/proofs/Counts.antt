@@ -1,6 +1,6 @@
 -- The count of ones of the low byte is the count of marks, for marks of any width.
 use mathlib.Core.Path.{_≡_, refl, _∙_}
-use mathlib.Core.Bool.{Bool, true, false}
+use mathlib.Core.Bool.{Bool, true, false, cond}
 use mathlib.Core.List.{List, [], _∷_, _++_}
 use Prim.Native.Nat.{ℕ, zero, suc, _+_, _/_, _%_, _^_, _<_, _≤_}
 use native.Mathlib.Nat.{mod-lt}
@@ -13,14 +13,14 @@ use lib.Pow.{mod-pow-add, pow-pos}
 use lib.Seq.{take-suc}
 use Rattle.cells.specs.Count.{marksBelow, marksIn, markCount}
 use Rattle.cells.specs.Layout.{marksWidth}
-use Rattle.cells.specs.Marks.{pick, has}
+use Rattle.cells.specs.Marks.{has}
 
 -- One bit is counted as one mark.
-bit-count : (k w : ℕ) → ones (w / 2 ^ k % 2) ≡ pick (has k w) 1 0
+bit-count : (k w : ℕ) → ones (w / 2 ^ k % 2) ≡ cond (has k w) 1 0
 unfolding has ones onesIn
 bit-count k w = at (has k w) refl
   where
-    at : (b : Bool) → has k w ≡ b → ones (w / 2 ^ k % 2) ≡ pick (has k w) 1 0
+    at : (b : Bool) → has k w ≡ b → ones (w / 2 ^ k % 2) ≡ cond (has k w) 1 0
     at true e = rw (e, eqb-true (w / 2 ^ k % 2) 1 e)
     at false e =
         let z : w / 2 ^ k % 2 ≡ 0 = omega (arith, eqb-false (w / 2 ^ k % 2) 1 e) in
@@ -35,7 +35,7 @@ unfolding marksBelow
 count-ones zero w = let z : w % 2 ^ 0 ≡ 0 = omega arith in rw z no-ones
 count-ones (suc k) w = rw (← one-add k, mod-pow-add w 1 k, ones-cat k (w / 2 ^ k % 2) (w % 2 ^ k) (mod-lt w (pow-pos k)), bit-count k w, count-ones k w)
 
-at-most-one : (b : Bool) → pick b 1 0 ≤ 1
+at-most-one : (b : Bool) → cond b 1 0 ≤ 1
 at-most-one true = omega arith
 at-most-one false = omega arith
 

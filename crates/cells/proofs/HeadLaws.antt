@@ -1,6 +1,6 @@
 -- Laws of the head: decode after encode and back, injectivity, forms.
 use mathlib.Core.Path.{_≡_, refl}
-use mathlib.Core.Bool.{Bool, true, false, _&&_, and-true}
+use mathlib.Core.Bool.{Bool, true, false, _&&_, and-true, cond}
 use mathlib.Core.List.{[], _∷_}
 use Prim.Native.Nat.{ℕ, _+_, _-_, _/_, _%_, _^_, _<_}
 use native.Mathlib.Numerals.{add-one}
@@ -12,7 +12,6 @@ use Rattle.cells.specs.Field.{unpack, Fit}
 use Rattle.cells.specs.Form.{holderBound, headFieldsInForm, headInForm, headInRange}
 use Rattle.cells.specs.Layout.{marksWidth, stateWidth, responseWidth, holderWidth, marks, value, headWidths, headValues, headAt, headFrom, headWord, headOf}
 use Rattle.cells.specs.MarkLaws.{SetsBit}
-use Rattle.cells.specs.Marks.{pick}
 use Rattle.cells.specs.declared.head.Head.{Head}
 use Rattle.cells.specs.declared.head.Head.the-variants.{Free, Held}
 use Rattle.cells.proofs.Codec.{Codec, content-read, marks-read, word-injective}
@@ -37,7 +36,7 @@ head-ranged s n (Free q) m = and-true (ltb q s)
 head-ranged s n (Held q j r) m = rw (ne-eqb (j + 1) 0 (λ z. omega arith), add-one j, and-true (ltb j (holderBound n)))
 
 -- Fields that pass the test are those of the head that they say.
-head-again : (m q r h : ℕ) → pick (eqb h 0) (eqb r 0) true ≡ true → headValues (headAt q r h) m ≡ m ∷ q ∷ r ∷ h ∷ []
+head-again : (m q r h : ℕ) → cond (eqb h 0) (eqb r 0) true ≡ true → headValues (headAt q r h) m ≡ m ∷ q ∷ r ∷ h ∷ []
 head-again m q r h t = at (eqb h 0) refl
   where
     at : (b : Bool) → eqb h 0 ≡ b → headValues (headAt q r h) m ≡ m ∷ q ∷ r ∷ h ∷ []
@@ -57,7 +56,7 @@ head-shape b c d s n = record { codec = head-codec; ranged = head-ranged s n; bl
         let q : ℕ = value w % 2 ^ b in
         let r : ℕ = value w / 2 ^ b % 2 ^ c in
         let h : ℕ = value w / 2 ^ b / 2 ^ c % 2 ^ d in
-        let quiet : Bool = pick (eqb h 0) (eqb r 0) true in
+        let quiet : Bool = cond (eqb h 0) (eqb r 0) true in
         head-again (marks w) q r h (and-right (leb h (holderBound n)) quiet (and-right (ltb q s) (leb h (holderBound n) && quiet) t))
 
 -- A head is read as it was written, and its word has its marks; different heads or marks have different words.

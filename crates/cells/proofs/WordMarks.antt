@@ -1,12 +1,12 @@
 -- What the marks of a cell are, for every task number.
 use mathlib.Core.Path.{_≡_, refl, ap, sym, _∙_}
-use mathlib.Core.Bool.{Bool, true, false}
+use mathlib.Core.Bool.{Bool, true, false, cond}
 use Prim.Native.Nat.{ℕ, _+_, _-_, _/_, _%_, _^_, _<_, _≤_}
 use native.Mathlib.Omega.{arith}
 use borrow.Author.Tests.{ltb-true, lt-ltb}
 use lib.Dec.{ltb}
 use Rattle.cells.specs.Layout.{marksWidth, value, marks, markOf, hasMark, addMark, removeMark}
-use Rattle.cells.specs.Marks.{pick, none, has, add, remove}
+use Rattle.cells.specs.Marks.{none, has, add, remove}
 use Rattle.cells.specs.MarkLaws.{SetsBit, place-below, has-none, has-low, set-high, set-low, add-below}
 
 -- A task below the marks' width has the marks that the laws of `MarkLaws` speak of.
@@ -25,19 +25,19 @@ module _ (i w : ℕ) (h : i < marksWidth) where
 
 -- Link and release by the place value of the mark.
 module _ (i w : ℕ) where
-  pub add-by-place : addMark i w ≡ pick (hasMark i w) w (w + markOf i)
+  pub add-by-place : addMark i w ≡ cond (hasMark i w) w (w + markOf i)
   unfolding addMark hasMark markOf add
   add-by-place = at (ltb i marksWidth) refl
     where
-      at : (b : Bool) → ltb i marksWidth ≡ b → addMark i w ≡ pick (hasMark i w) w (w + markOf i)
+      at : (b : Bool) → ltb i marksWidth ≡ b → addMark i w ≡ cond (hasMark i w) w (w + markOf i)
       at true e = simp e
       at false e = simp e (omega arith)
 
-  pub remove-by-place : removeMark i w ≡ pick (hasMark i w) (w - markOf i) w
+  pub remove-by-place : removeMark i w ≡ cond (hasMark i w) (w - markOf i) w
   unfolding removeMark hasMark markOf remove
   remove-by-place = at (ltb i marksWidth) refl
     where
-      at : (b : Bool) → ltb i marksWidth ≡ b → removeMark i w ≡ pick (hasMark i w) (w - markOf i) w
+      at : (b : Bool) → ltb i marksWidth ≡ b → removeMark i w ≡ cond (hasMark i w) (w - markOf i) w
       at true e = simp e
       at false e = simp e
 

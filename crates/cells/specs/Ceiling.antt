@@ -1,12 +1,11 @@
 -- Document 01, "Runs, steps and records": the ceiling of own steps, held as a table.
-use mathlib.Core.Bool.{_&&_}
+use mathlib.Core.Bool.{_&&_, cond}
 use mathlib.Core.List.{List, [], _∷_}
 use Prim.Native.Nat.{ℕ, _-_}
 use lib.Dec.{leb}
 use lib.ListN.{getD}
 use Rattle.refusal.specs.Number.{numberOf}
 use Rattle.refusal.specs.declared.Refusal.the-variants.{Row}
-use Rattle.cells.specs.Marks.{pick}
 use Rattle.cells.specs.declared.ceiling.Ceiling.{Ceiling}
 use Rattle.cells.specs.declared.ceiling.Ceiling.the-variants.{Steps, Refused}
 
@@ -16,7 +15,7 @@ ceilings = 1000 ∷ 8000 ∷ 27000 ∷ 64000 ∷ 125000 ∷ 216000 ∷ 343000 �
 
 -- The table's entry for n tasks, if there are 1 to 8; else the row is refused.
 unfoldable pub ceilingOf : ℕ → Ceiling
-ceilingOf n = pick (leb 1 n && leb n 8) (Steps (getD ceilings (n - 1) 0)) (Refused Row)
+ceilingOf n = cond (leb 1 n && leb n 8) (Steps (getD ceilings (n - 1) 0)) (Refused Row)
 
 -- The number that is returned for an answer: 0 with a ceiling, else that of the cause.
 abbrev pub ceilingNumber : Ceiling → ℕ

@@ -1,12 +1,11 @@
 -- Document 01, "The cells": which words are in form, with s states, m operations and n tasks.
-use mathlib.Core.Bool.{Bool, true, _&&_}
+use mathlib.Core.Bool.{Bool, true, _&&_, cond}
 use mathlib.Core.List.{List, [], _∷_}
 use Prim.Native.Nat.{ℕ, _^_}
 use lib.Dec.{eqb, ltb, leb}
 use lib.ListN.{getD}
 use Rattle.cells.specs.Field.{unpack, total}
 use Rattle.cells.specs.Layout.{headWidths, announcementWidths, marks}
-use Rattle.cells.specs.Marks.{pick}
 use Rattle.cells.specs.declared.head.Head.{Head}
 use Rattle.cells.specs.declared.head.Head.the-variants.{Free, Held}
 use Rattle.cells.specs.declared.announcement.Announcement.{Announcement}
@@ -27,7 +26,7 @@ inForm ws fields n w = ltb w (2 ^ total ws) && (marksInForm n w && fields (unpac
 -- The state is below s, the holder within its bound, and without a holder the response is 0.
 unfoldable pub headFieldsInForm : ℕ → ℕ → List ℕ → Bool
 headFieldsInForm s n vs =
-    ltb (getD vs 1 0) s && (leb (getD vs 3 0) (holderBound n) && pick (eqb (getD vs 3 0) 0) (eqb (getD vs 2 0) 0) true)
+    ltb (getD vs 1 0) s && (leb (getD vs 3 0) (holderBound n) && cond (eqb (getD vs 3 0) 0) (eqb (getD vs 2 0) 0) true)
 
 -- A head in form.
 unfoldable pub headInForm : ℕ → ℕ → ℕ → Bool
@@ -40,7 +39,7 @@ headInRange s n (Held q j r) = ltb q s && ltb j (holderBound n)
 
 -- Kind 0 has payload 0, kind 1 an operation below m, kind 2 any response, and there is no other kind.
 unfoldable pub payloadInForm : ℕ → ℕ → ℕ → Bool
-payloadInForm m k p = pick (eqb k 0) (eqb p 0) (pick (eqb k 1) (ltb p m) (eqb k 2))
+payloadInForm m k p = cond (eqb k 0) (eqb p 0) (cond (eqb k 1) (ltb p m) (eqb k 2))
 
 -- The bits between kind and payload are 0, and the payload is in form.
 unfoldable pub announcementFieldsInForm : ℕ → List ℕ → Bool

@@ -1,11 +1,11 @@
 -- Document 01, "The cells": the fields of a head and of an announcement.
-use mathlib.Core.Bool.{Bool, false}
+use mathlib.Core.Bool.{Bool, false, cond}
 use mathlib.Core.List.{List, [], _∷_}
 use Prim.Native.Nat.{ℕ, _+_, _-_, _/_, _%_, _^_}
 use lib.Dec.{eqb, ltb}
 use lib.ListN.{getD}
 use Rattle.cells.specs.Field.{pack, unpack}
-use Rattle.cells.specs.Marks.{pick, has, add, remove}
+use Rattle.cells.specs.Marks.{has, add, remove}
 use Rattle.cells.specs.declared.head.Head.{Head}
 use Rattle.cells.specs.declared.head.Head.the-variants.{Free, Held}
 use Rattle.cells.specs.declared.announcement.Announcement.{Announcement}
@@ -51,19 +51,19 @@ marks w = w % 2 ^ marksWidth
 
 -- The place value of a task's mark; a task beyond the marks has none.
 unfoldable pub markOf : ℕ → ℕ
-markOf i = pick (ltb i marksWidth) (2 ^ i) 0
+markOf i = cond (ltb i marksWidth) (2 ^ i) 0
 
 -- Task i has its mark in the cell; a task beyond the marks never has.
 unfoldable pub hasMark : ℕ → ℕ → Bool
-hasMark i w = pick (ltb i marksWidth) (has i w) false
+hasMark i w = cond (ltb i marksWidth) (has i w) false
 
 -- The cell with task i's mark; a task beyond the marks changes nothing.
 unfoldable pub addMark : ℕ → ℕ → ℕ
-addMark i w = pick (ltb i marksWidth) (add i w) w
+addMark i w = cond (ltb i marksWidth) (add i w) w
 
 -- The cell without task i's mark; a task beyond the marks changes nothing.
 unfoldable pub removeMark : ℕ → ℕ → ℕ
-removeMark i w = pick (ltb i marksWidth) (remove i w) w
+removeMark i w = cond (ltb i marksWidth) (remove i w) w
 
 -- The values of a head's fields; the holder is 0 for none, else the task's number plus 1.
 abbrev pub headValues : Head → ℕ → List ℕ
@@ -72,7 +72,7 @@ headValues (Held q j r) m = m ∷ q ∷ r ∷ (j + 1) ∷ []
 
 -- The head that these values of state, response and holder say.
 abbrev pub headAt : ℕ → ℕ → ℕ → Head
-headAt q r h = pick (eqb h 0) (Free q) (Held q (h - 1) r)
+headAt q r h = cond (eqb h 0) (Free q) (Held q (h - 1) r)
 
 -- The head that a list of field values says.
 abbrev pub headFrom : List ℕ → Head
@@ -94,7 +94,7 @@ announcementValues (Response r) m = m ∷ 2 ∷ 0 ∷ r ∷ []
 
 -- The announcement that these values of kind and payload say; an unknown kind says nothing.
 abbrev pub announcementAt : ℕ → ℕ → Announcement
-announcementAt k p = pick (eqb k 1) (Operation p) (pick (eqb k 2) (Response p) Empty)
+announcementAt k p = cond (eqb k 1) (Operation p) (cond (eqb k 2) (Response p) Empty)
 
 -- The announcement that a list of field values says.
 abbrev pub announcementFrom : List ℕ → Announcement

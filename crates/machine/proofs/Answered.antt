@@ -1,12 +1,12 @@
 -- The potential of an operation that has its response, when the cells and the record of one task i change.
 use mathlib.Core.Path.{_≡_, refl, sym, _∙_, ap}
-use mathlib.Core.Bool.{Bool, true, false, _||_, not}
+use mathlib.Core.Bool.{Bool, true, false, _||_, not, cond}
 use mathlib.Core.Logic.{_≢_}
 use Prim.Native.Nat.{ℕ, _+_, _*_, _≤_, _<_}
 use native.Mathlib.Decide.{ℕ-discrete}
 use native.Mathlib.Omega.{arith}
 use Rattle.machine.specs.Memory.{HeadValue, Free, Held, Content, Cell, Memory, update, head-dec, announcement-dec}
-use Rattle.machine.specs.Machine.{Phase, Idle, ReadOnly, Announce, Poll, LoadHead, LinkHead, LoadPriority, LoadOwn, Apply, ReloadApply, LoadHelped, LinkHelped, Validate, HandOver, ReloadHandOver, Release, ReloadRelease, ClearHead, ReloadClear, LoadExit, LinkExit, ClearExit, ReleaseExit, Retract, Task, decided, pick}
+use Rattle.machine.specs.Machine.{Phase, Idle, ReadOnly, Announce, Poll, LoadHead, LinkHead, LoadPriority, LoadOwn, Apply, ReloadApply, LoadHelped, LinkHelped, Validate, HandOver, ReloadHandOver, Release, ReloadRelease, ClearHead, ReloadClear, LoadExit, LinkExit, ClearExit, ReleaseExit, Retract, Task, decided}
 use Rattle.machine.specs.Run.{Config}
 use Rattle.machine.specs.Invariant.{inHead, inAnnouncement, headValue, content, OwnSaved}
 use Rattle.machine.specs.Potential.{row, Work, Elsewhere, Linking, Passing, Applying, Approaching, Marking, Finishing, HeadWord, AnnouncementWord, one, stale, holds, unanswered, but, linking, counts, owes, atHead, headLoad, debts, headPart, markPart, announcementAside, lasts, answeredPotential}
@@ -29,20 +29,20 @@ pub data Due {W : Type 0} (a a′ : Bool) (s s′ : ℕ) (o o′ : W → ℕ) : 
   goes-on : (k : ℕ) → a′ ≡ a → s′ + k ≤ s → ((w : W) → o′ w ≤ o w + k) → Due a a′ s s′ o o′
 
 module _ {W : Type 0} {a a′ : Bool} {s s′ : ℕ} {o o′ : W → ℕ} where
-  pub due-part : Due a a′ s s′ o o′ → pick a′ s′ 0 ≤ pick a s 0
+  pub due-part : Due a a′ s s′ o o′ → cond a′ s′ 0 ≤ cond a s 0
   due-part (over e) = rw e (omega arith)
   due-part (goes-on k e h f) = rw e (pick-mono a s′ s (omega arith))
 
   -- A word that is in its cell is backed by the part.
-  pub due-word : (u : ℕ) (w : W) → Due a a′ s s′ o o′ → u ≤ s → o′ w ≤ u → (a ≡ false → o w ≡ u) → pick a′ s′ 0 + o′ w ≤ pick a s 0 + o w
+  pub due-word : (u : ℕ) (w : W) → Due a a′ s s′ o o′ → u ≤ s → o′ w ≤ u → (a ≡ false → o w ≡ u) → cond a′ s′ 0 + o′ w ≤ cond a s 0 + o w
   due-word u w (over e) l h g = rw e (go a g)
     where
-      go : (x : Bool) → (x ≡ false → o w ≡ u) → 0 + o′ w ≤ pick x s 0 + o w
+      go : (x : Bool) → (x ≡ false → o w ≡ u) → 0 + o′ w ≤ cond x s 0 + o w
       go true g = omega arith
       go false g = omega (arith, g refl)
   due-word u w (goes-on k e m f) l h g = rw e (go a g)
     where
-      go : (x : Bool) → (x ≡ false → o w ≡ u) → pick x s′ 0 + o′ w ≤ pick x s 0 + o w
+      go : (x : Bool) → (x ≡ false → o w ≡ u) → cond x s′ 0 + o′ w ≤ cond x s 0 + o w
       go true g = omega (arith, f w)
       go false g = omega (arith, g refl)
 
@@ -156,7 +156,7 @@ module _ (n i : ℕ) (lt : i < n) (c : Config) (m′ : Memory) (t′ : Task) (p 
       omega (
         arith,
         ranks-fall n i lt c m′ t′ o r p,
-        ap {B = ℕ} (λ (x : Bool). pick x 26 0) (unanswered-stays (c .memory) m′ (headValue (c .memory)) (o .value) (o .holder)),
+        ap {B = ℕ} (λ (x : Bool). cond x 26 0) (unanswered-stays (c .memory) m′ (headValue (c .memory)) (o .value) (o .holder)),
       )
 
   -- Seen by another task p.

@@ -1,6 +1,6 @@
 -- Every call is booked: its entries and its booking are a legal step of the plain book, and the book stays related to the configuration.
 use mathlib.Core.Path.{_≡_, refl, sym, _∙_, ap}
-use mathlib.Core.Bool.{Bool, true, false}
+use mathlib.Core.Bool.{Bool, true, false, cond}
 use mathlib.Core.Logic.{_≢_}
 use Prim.Native.Nat.{ℕ, suc, _<_}
 use native.Mathlib.Omega.{arith}
@@ -8,7 +8,7 @@ use native.Mathlib.Decide.{ℕ-discrete}
 use borrow.Author.Tests.{lt-ltb, le-ltb}
 use Rattle.machine.specs.Object.{Object}
 use Rattle.machine.specs.Memory.{HeadValue, Free, Held, Content, Empty, Op, Resp, Memory, either, update}
-use Rattle.machine.specs.Machine.{Phase, Idle, Task, pick, Next, Go, Turn, End, advance}
+use Rattle.machine.specs.Machine.{Phase, Idle, Task, Next, Go, Turn, End, advance}
 use Rattle.machine.specs.Kind.{Kind, Off, Reading, Opening, Looping, Exiting, Retracting, kind, off}
 use Rattle.machine.specs.Run.{Config, Call, Begin, Step, Running, Served, firstPhase, answerOf, serve}
 use Rattle.machine.specs.Run.{begun as began}
@@ -131,10 +131,10 @@ module _ (b : Object) (n place : ℕ) (c : Config) (k : Book) (rel : Related c k
 
   -- The entries before a step: by the task's phase, and none for a number that is no task's.
   enters-below : {i : ℕ} → i < n → enterFor b n (Step i) c k ≡ enterBy b (c .memory) i (c .task i .phase) k
-  enters-below {i} h = ap (λ (t : Bool). pick t (enterBy b (c .memory) i (c .task i .phase) k) k) (lt-ltb i n h)
+  enters-below {i} h = ap (λ (t : Bool). cond t (enterBy b (c .memory) i (c .task i .phase) k) k) (lt-ltb i n h)
 
   enters-beyond : {i : ℕ} → (i < n → ⊥) → enterFor b n (Step i) c k ≡ k
-  enters-beyond {i} h = ap (λ (t : Bool). pick t (enterBy b (c .memory) i (c .task i .phase) k) k) (le-ltb i n (omega arith))
+  enters-beyond {i} h = ap (λ (t : Bool). cond t (enterBy b (c .memory) i (c .task i .phase) k) k) (le-ltb i n (omega arith))
 
   enters-idle : {i : ℕ} → i < n → c .task i .phase ≡ Idle → enterFor b n (Step i) c k ≡ k
   enters-idle {i} h e = enters-below h ∙ ap (λ (f : Phase). enterBy b (c .memory) i f k) e

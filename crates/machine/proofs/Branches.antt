@@ -1,13 +1,13 @@
 -- Every step takes one of the branches.
 use mathlib.Core.Path.{_≡_, refl, _∙_, ap}
-use mathlib.Core.Bool.{Bool, true, false}
+use mathlib.Core.Bool.{Bool, true, false, cond}
 use mathlib.Core.Logic.{_≢_}
 use Prim.Native.Nat.{ℕ}
 use native.Mathlib.Omega.{arith}
 use native.Mathlib.Decide.{ℕ-discrete}
 use Rattle.machine.specs.Object.{Object}
 use Rattle.machine.specs.Memory.{HeadValue, Free, Held, Content, Empty, Op, Resp, Cell, Memory, either, update, head-dec, announcement-dec}
-use Rattle.machine.specs.Machine.{Phase, Idle, ReadOnly, Announce, Poll, LoadHead, LinkHead, LoadPriority, LoadOwn, Apply, ReloadApply, LoadHelped, LinkHelped, Validate, HandOver, ReloadHandOver, Release, ReloadRelease, ClearHead, ReloadClear, LoadExit, LinkExit, ClearExit, ReleaseExit, Retract, linked, released, cleared, plan, result, perform, after, decided, pick, Next, afterPoll, afterLink, afterPriority, afterOwn, afterLinkHelped, afterExit}
+use Rattle.machine.specs.Machine.{Phase, Idle, ReadOnly, Announce, Poll, LoadHead, LinkHead, LoadPriority, LoadOwn, Apply, ReloadApply, LoadHelped, LinkHelped, Validate, HandOver, ReloadHandOver, Release, ReloadRelease, ClearHead, ReloadClear, LoadExit, LinkExit, ClearExit, ReleaseExit, Retract, linked, released, cleared, plan, result, perform, after, decided, Next, afterPoll, afterLink, afterPriority, afterOwn, afterLinkHelped, afterExit}
 use Rattle.machine.specs.Invariant.{inHead, inAnnouncement, headValue, content, NotHolder}
 use Rattle.machine.proofs.Effect.{Effect, Unchanged, Linked, Released, Cleared, Retracted, Applied, LinkedAt, ReleasedAt, HandedOver, Announced, effect, withHead, withAnnouncement}
 use Rattle.machine.proofs.Branch.{Branch, stay-idle, read-only, announce, poll-response, poll-waits, load-head, link-free, link-held, link-fails, priority-waits, priority-rests, own-waits, own-response, own-empty, apply, apply-fails, reload-apply, reload-apply-lost, load-helped, link-helped, link-rested, link-helped-fails, validate, validate-fails, hand-over, hand-over-fails, reload-hand-over, reload-hand-over-lost, release, release-fails, reload-release, reload-release-lost, clear, clear-fails, reload-clear, reload-clear-lost, exit-clear, exit-release, exit-link, exit-retract, link-exit, link-exit-fails, clear-exit, clear-exit-fails, release-exit, release-exit-fails, retract}
@@ -32,21 +32,21 @@ module _ (b : Object) (m : Memory) (i p x : ℕ) where
   same : {f : Phase} {y : Next} → Branch b m i p x f Unchanged y → Takes f m y
   same v = record { change = Unchanged; branch = v; cells = refl }
 
-  by-mark : {f : Phase} {y z : Next} (c : Bool) → (c ≡ true → Branch b m i p x f Unchanged y) → (c ≡ false → Branch b m i p x f Unchanged z) → Takes f m (pick c y z)
+  by-mark : {f : Phase} {y z : Next} (c : Bool) → (c ≡ true → Branch b m i p x f Unchanged y) → (c ≡ false → Branch b m i p x f Unchanged z) → Takes f m (cond c y z)
   by-mark true g h = same (g refl)
   by-mark false g h = same (h refl)
 
   -- A swap of the head, and one of an announcement.
   swap-head : {f : Phase} {h h′ : Cell HeadValue} {y z : Next} (d : Dec (m .head ≡ h)) (e : Effect)
       → (m .head ≡ h → Branch b m i p x f e y) → (m .head ≡ h → withHead m h′ ≡ effect i e m)
-      → ((m .head ≡ h → ⊥) → Branch b m i p x f Unchanged z) → Takes f (withHead m (either d h′ (m .head))) (pick (decided d) y z)
+      → ((m .head ≡ h → ⊥) → Branch b m i p x f Unchanged z) → Takes f (withHead m (either d h′ (m .head))) (cond (decided d) y z)
   swap-head (yes q) e g k n = record { change = e; branch = g q; cells = k q }
   swap-head (no q) e g k n = same (n q)
 
   swap-announcement : {f : Phase} {j : ℕ} {a : Cell Content} {y z : Next} (d : Dec (m .announcement j ≡ a)) (a′ : Cell Content) (e : Effect)
       → (m .announcement j ≡ a → Branch b m i p x f e y) → (m .announcement j ≡ a → withAnnouncement m j a′ ≡ effect i e m)
       → ((m .announcement j ≡ a → ⊥) → Branch b m i p x f Unchanged z)
-      → Takes f (record { head = m .head; announcement = either d (update (m .announcement) j a′) (m .announcement) }) (pick (decided d) y z)
+      → Takes f (record { head = m .head; announcement = either d (update (m .announcement) j a′) (m .announcement) }) (cond (decided d) y z)
   swap-announcement (yes q) a′ e g k n = record { change = e; branch = g q; cells = k q }
   swap-announcement (no q) a′ e g k n = same (n q)
 

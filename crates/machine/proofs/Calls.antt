@@ -1,13 +1,13 @@
 -- What a call does, by its tests: one case for each outcome, with the facts that the tests found.
 use mathlib.Core.Path.{_≡_, refl}
-use mathlib.Core.Bool.{Bool, true, false}
+use mathlib.Core.Bool.{Bool, true, false, cond}
 use Prim.Native.Nat.{ℕ, _<_}
 use native.Mathlib.Omega.{arith}
 use lib.Dec.{ltb}
 use borrow.Author.Tests.{ltb-true, ltb-false}
 use Rattle.refusal.specs.declared.Refusal.the-variants as cause
 use Rattle.machine.specs.Object.{Object}
-use Rattle.machine.specs.Machine.{Phase, Idle, ReadOnly, Announce, Poll, LoadHead, LinkHead, LoadPriority, LoadOwn, Apply, ReloadApply, LoadHelped, LinkHelped, Validate, HandOver, ReloadHandOver, Release, ReloadRelease, ClearHead, ReloadClear, LoadExit, LinkExit, ClearExit, ReleaseExit, Retract, Next, pick}
+use Rattle.machine.specs.Machine.{Phase, Idle, ReadOnly, Announce, Poll, LoadHead, LinkHead, LoadPriority, LoadOwn, Apply, ReloadApply, LoadHelped, LinkHelped, Validate, HandOver, ReloadHandOver, Release, ReloadRelease, ClearHead, ReloadClear, LoadExit, LinkExit, ClearExit, ReleaseExit, Retract, Next}
 use Rattle.machine.specs.Kind.{kind, off}
 use Rattle.machine.specs.Run.{Config, Call, Begin, Step, Served, unserved, begun, begin, step, stepped, answerOf, serve}
 use Rattle.machine.proofs.Effect.{Effect}
@@ -51,7 +51,7 @@ pub data Serving (b : Object) (n : ℕ) (c : Config) : Call → Served → Type 
   step-idle : {i : ℕ} → i < n → c .task i .phase ≡ Idle → Serving b n c (Step i) (unserved c cause.Idle)
 
 -- What holds of either branch holds of the picked one.
-pub pick-case : {A : Type 0} (P : A → Type 0) (t : Bool) {x y : A} → (t ≡ true → P x) → (t ≡ false → P y) → P (pick t x y)
+pub pick-case : {A : Type 0} (P : A → Type 0) (t : Bool) {x y : A} → (t ≡ true → P x) → (t ≡ false → P y) → P (cond t x y)
 pick-case P true f g = f refl
 pick-case P false f g = g refl
 

@@ -1,8 +1,8 @@
 -- The effects by what they mean to the potential: seven ordinary ones, and three stage changes (apply, hand over, clear).
-use mathlib.Core.Bool.{Bool, true, false}
+use mathlib.Core.Bool.{Bool, true, false, cond}
 use Prim.Native.Nat.{ℕ, _+_}
 use native.Mathlib.Decide.{ℕ-discrete}
-use Rattle.machine.specs.Machine.{decided, pick}
+use Rattle.machine.specs.Machine.{decided}
 use Rattle.machine.specs.Potential.{always, headWeight, announcementWeight, lostWeight}
 use Rattle.machine.proofs.Effect.{Effect, Unchanged, Linked, Released, Cleared, Retracted, Applied, LinkedAt, ReleasedAt, HandedOver, Announced}
 
@@ -30,7 +30,7 @@ columns c s l m w = record { cost = c; stage = s; links = l; marks = m; writes =
 
 abbrev pub class : Effect → Class
 class Unchanged = columns (always 0) 0 false nowhere nowhere
-class Linked = columns (λ marked. pick marked 0 headWeight) 0 true nowhere nowhere
+class Linked = columns (λ marked. cond marked 0 headWeight) 0 true nowhere nowhere
 class Released = columns (always headWeight) 0 false nowhere nowhere
 class Cleared = columns (always 0) (headWeight + lostWeight) false nowhere nowhere
 class Retracted = columns (always announcementWeight) 0 false nowhere own

@@ -1,13 +1,13 @@
 -- A step as its own task sees it: the place in the loop, and once there is a response all that may still hold the task up.
 use mathlib.Core.Path.{_≡_, refl, _∙_, ap}
-use mathlib.Core.Bool.{Bool, true, false, _&&_, _||_, not}
+use mathlib.Core.Bool.{Bool, true, false, _&&_, _||_, not, cond}
 use Prim.Native.Nat.{ℕ, _+_, _*_, _≤_}
 use native.Mathlib.Decide.{ℕ-discrete}
 use native.Mathlib.Omega.{arith}
 use Rattle.machine.specs.Marks.{has-add}
 use Rattle.machine.specs.Object.{Object}
 use Rattle.machine.specs.Memory.{HeadValue, Held, Content, Cell, Memory, head-dec, announcement-dec}
-use Rattle.machine.specs.Machine.{Phase, Next, phaseOf, decided, pick, linked}
+use Rattle.machine.specs.Machine.{Phase, Next, phaseOf, decided, linked}
 use Rattle.machine.specs.Kind.{Kind, Off, Reading, Opening, Looping, Exiting, Retracting, kind}
 use Rattle.machine.specs.Invariant.{inHead, headValue, content, IsResp, HeldBy, TaskSafe}
 use Rattle.machine.specs.Potential.{Row, row, HeadWord, AnnouncementWord, one, stale, holds, placeOf, atHead, lasts}
@@ -70,11 +70,11 @@ module _ (b : Object) (m : Memory) (i k o n : ℕ) (h h′ : ℕ) (g g′ : ℕ 
   linked-there j a e = ap (λ k. 5 * k) (found-word (announcement-dec _ (linked i a)) (update-same (m .announcement) j (linked i (m .announcement j)) ∙ ap (linked i) e))
 
   -- A task that links the head to leave it holds it already.
-  kept-exit : {x : Cell HeadValue} → h′ ≤ h + pick (true && not (atHead m i)) (39 * n) 0 → m .head ≡ x → HeldBy i x → h′ ≤ h
+  kept-exit : {x : Cell HeadValue} → h′ ≤ h + cond (true && not (atHead m i)) (39 * n) 0 → m .head ≡ x → HeldBy i x → h′ ≤ h
   kept-exit l e (q, r, f) = let y : h′ ≤ h + 0 = rw (held-own m (value-found e ∙ f)) at l in omega arith
 
   pub course : {f : Phase} {e : Effect} {y : Next} → Branch b m i k o f e y → TaskSafe m i o f
-      → h′ ≤ h + pick (class e .links && not (atHead m i)) (39 * n) 0
+      → h′ ≤ h + cond (class e .links && not (atHead m i)) (39 * n) 0
       → (e ≡ Unchanged → (j : ℕ) → g′ j ≤ g j) → Courses f e y
   course stay-idle s l u = rests
   course read-only s l u = reads

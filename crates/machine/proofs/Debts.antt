@@ -1,6 +1,6 @@
 -- What a task can still do to the announcement of task t: the changes of this number, by what changes in the cells.
 use mathlib.Core.Path.{_≡_, refl, ap}
-use mathlib.Core.Bool.{Bool, true, false, _&&_, _||_}
+use mathlib.Core.Bool.{Bool, true, false, _&&_, _||_, cond}
 use mathlib.Core.Logic.{_≢_}
 use Prim.Native.Nat.{ℕ, _+_, _*_, _≤_}
 use native.Mathlib.Decide.{ℕ-discrete}
@@ -8,7 +8,7 @@ use native.Mathlib.Omega.{arith}
 use Rattle.machine.specs.Marks.{has}
 use Rattle.machine.specs.Object.{Object}
 use Rattle.machine.specs.Memory.{Content, Cell, Memory}
-use Rattle.machine.specs.Machine.{decided, pick}
+use Rattle.machine.specs.Machine.{decided}
 use Rattle.machine.specs.Invariant.{inHead, inAnnouncement, headValue, content}
 use Rattle.machine.specs.Potential.{Work, one, waiting, holds, approaches, worksFor, owed, owes}
 use Rattle.machine.proofs.Update.{update-other}
@@ -17,11 +17,11 @@ use Rattle.machine.proofs.Own.{value-found}
 use Rattle.machine.proofs.Readings.{one-le, pick-le, waiting-not, resp-not-op}
 use Rattle.machine.proofs.Ordinary.{Sort, ordinary, clears, applies, hands-over}
 
-either-le : (x : Bool) (a : ℕ) → pick x 0 a ≤ a
+either-le : (x : Bool) (a : ℕ) → cond x 0 a ≤ a
 either-le true a = omega arith
 either-le false a = omega arith
 
-first-le : (x y : Bool) → pick x 2 (one y) ≤ 2
+first-le : (x y : Bool) → cond x 2 (one y) ≤ 2
 first-le true y = omega arith
 first-le false y = omega (arith, one-le y)
 
@@ -34,18 +34,18 @@ owes-most m x t w = omega (arith, first-le (approaches t w) (inAnnouncement m x 
 -- ---- By the task itself; d decides whether its target is t
 
 -- It links the head of its target, and approaches.
-pub link-owes : {P : Type 0} (d : Dec P) (a w : Bool) → pick (decided d) 2 (one a) + pick (decided d && (decided d && true)) 0 (pick (w || decided d) 2 0) ≤ one a + pick (w || decided d) 2 0
+pub link-owes : {P : Type 0} (d : Dec P) (a w : Bool) → cond (decided d) 2 (one a) + cond (decided d && (decided d && true)) 0 (cond (w || decided d) 2 0) ≤ one a + cond (w || decided d) 2 0
 link-owes (yes e) a true = omega arith
 link-owes (yes e) a false = omega arith
 link-owes (no n) a w = omega arith
 
 -- It marks the announcement of its target; a, a′: its mark there, before and after.
-pub mark-owes : {P : Type 0} (d : Dec P) (a a′ : Bool) (s : ℕ) → ((P → ⊥) → a′ ≡ a) → one a′ + s + one (decided d) ≤ pick (decided d) 2 (one a) + s
+pub mark-owes : {P : Type 0} (d : Dec P) (a a′ : Bool) (s : ℕ) → ((P → ⊥) → a′ ≡ a) → one a′ + s + one (decided d) ≤ cond (decided d) 2 (one a) + s
 mark-owes (yes e) a a′ s f = omega (arith, one-le a′)
 mark-owes (no n) a a′ s f = rw (f n) (omega arith)
 
 -- It doesn't succeed, and leaves.
-pub miss-owes : {P : Type 0} (d : Dec P) (x : Bool) (s : ℕ) → s ≤ 2 → s ≤ pick (decided d) 2 0 + pick (decided d && x) 0 s
+pub miss-owes : {P : Type 0} (d : Dec P) (x : Bool) (s : ℕ) → s ≤ 2 → s ≤ cond (decided d) 2 0 + cond (decided d && x) 0 s
 miss-owes (yes e) x s h = omega arith
 miss-owes (no n) x s h = omega arith
 
@@ -55,7 +55,7 @@ unmark-owes (yes e) a a′ s f g k = rw (f e, g e) (omega arith)
 unmark-owes (no n) a a′ s f g k = rw (k n) (omega arith)
 
 -- It has lost its mark in the head, and leaves.
-pub lost-owes : (x y : Bool) (s : ℕ) → s ≤ pick (x && (y && false)) 0 s
+pub lost-owes : (x y : Bool) (s : ℕ) → s ≤ cond (x && (y && false)) 0 s
 lost-owes true true s = omega arith
 lost-owes true false s = omega arith
 lost-owes false y s = omega arith
@@ -75,12 +75,12 @@ written-owes m j a x t w = go (ℕ-discrete j t)
         rw (c, h) (omega arith)
 
 -- The head has no holder any more, or a new one; d decides whether this is t.
-clear-owed : {P : Type 0} (d : Dec P) (works h w : Bool) → (P → w ≡ false) → pick (w || false) 2 0 ≤ pick (works && (decided d && h)) 0 (pick (w || decided d) 2 0)
+clear-owed : {P : Type 0} (d : Dec P) (works h w : Bool) → (P → w ≡ false) → cond (w || false) 2 0 ≤ cond (works && (decided d && h)) 0 (cond (w || decided d) 2 0)
 clear-owed (yes e) works h w f = rw (f e) (omega arith)
 clear-owed (no n) true h w f = omega arith
 clear-owed (no n) false h w f = omega arith
 
-apply-owed : {P : Type 0} (d : Dec P) (works w : Bool) → (P → w ≡ true) → pick (w || decided d) 2 0 ≤ pick (works && false) 0 (pick (w || false) 2 0)
+apply-owed : {P : Type 0} (d : Dec P) (works w : Bool) → (P → w ≡ true) → cond (w || decided d) 2 0 ≤ cond (works && false) 0 (cond (w || false) 2 0)
 apply-owed (yes e) true w f = rw (f e) (omega arith)
 apply-owed (yes e) false w f = rw (f e) (omega arith)
 apply-owed (no n) true w f = omega arith
@@ -91,7 +91,7 @@ module _ (b : Object) (m : Memory) (i x t : ℕ) (w w′ : Work) (same : approac
   cleared-owes (q, j, r, h, y) =
       rw (same, h) (omega (
         arith,
-        either-le (worksFor t w′ && false) (pick (waiting (content m t) || false) 2 0),
+        either-le (worksFor t w′ && false) (cond (waiting (content m t) || false) 2 0),
         clear-owed (ℕ-discrete j t) (worksFor t w) (inHead m x) (waiting (content m t)) (λ e. waiting-not (content m t) (resp-not-op (content m t) (rw e at y))),
       ))
 
@@ -99,7 +99,7 @@ module _ (b : Object) (m : Memory) (i x t : ℕ) (w w′ : Work) (same : approac
   applied-owes q j r (c, o, h, y, _, _) =
       rw (same, h) (omega (
         arith,
-        either-le (worksFor t w′ && (decided (ℕ-discrete j t) && has x 0)) (pick (waiting (content m t) || decided (ℕ-discrete j t)) 2 0),
+        either-le (worksFor t w′ && (decided (ℕ-discrete j t) && has x 0)) (cond (waiting (content m t) || decided (ℕ-discrete j t)) 2 0),
         apply-owed (ℕ-discrete j t) (worksFor t w) (waiting (content m t)) (λ e. rw (← e, y) refl),
       ))
 

@@ -1,13 +1,13 @@
 -- A step lowers the potential of its own operation, and raises that of no other.
 use mathlib.Core.Path.{_≡_, refl, sym, _∙_, ap}
-use mathlib.Core.Bool.{Bool, true, false, _&&_, _||_, not}
+use mathlib.Core.Bool.{Bool, true, false, _&&_, _||_, not, cond}
 use mathlib.Core.Logic.{_≢_}
 use Prim.Native.Nat.{ℕ, _+_, _*_, _≤_, _<_}
 use native.Mathlib.Decide.{ℕ-discrete}
 use native.Mathlib.Omega.{arith}
 use Rattle.machine.specs.Object.{Object}
 use Rattle.machine.specs.Memory.{Free, Held, Content, Empty, Op, Resp, Memory, stateOf}
-use Rattle.machine.specs.Machine.{Task, Next, phaseOf, turns, advance, pick}
+use Rattle.machine.specs.Machine.{Task, Next, phaseOf, turns, advance}
 use Rattle.machine.specs.Kind.{Kind, Off, Reading, Opening, Looping, Exiting, Retracting, kind}
 use Rattle.machine.specs.Run.{Config}
 use Rattle.machine.specs.Invariant.{inHead, headValue, content, IsResp, OwnContent, Safe}
@@ -40,7 +40,7 @@ or-one false true y k h = omega arith
 or-one false false y k h = omega arith
 
 -- The part of the head that is due to the task that steps: only a link makes it due.
-own-due : (a a′ links : Bool) (s s′ most : ℕ) → s′ ≤ s → s′ ≤ most → one a′ ≤ one a + one links → pick a′ s′ 0 ≤ pick a s 0 + pick (links && not a) most 0
+own-due : (a a′ links : Bool) (s s′ most : ℕ) → s′ ≤ s → s′ ≤ most → one a′ ≤ one a + one links → cond a′ s′ 0 ≤ cond a s 0 + cond (links && not a) most 0
 own-due true true l s s′ most x y z = omega arith
 own-due false true true s s′ most x y z = omega arith
 own-due false true false s s′ most x y z = omega arith
@@ -190,7 +190,7 @@ module _ (b : Object) (n i : ℕ) (lt : i < n) (c : Config) (safe : Safe c) (bel
   own-answered {r = r} (hands-over {j = j} a) h f = elsewhere m i j i _ (λ z. (let u : content m i ≡ Op (a .1) = rw (← z) (a .3) in let w : _≡_ {A = ℕ} 0 1 = cc in omega arith)) ∙ f
 
   -- Its part of the head becomes due by a link alone.
-  own-head : {e : Effect} {y : Next} → Steps b i c e y → Sort b m i e → IsResp (content m i) → headPart n (after e y) i ≤ headPart n c i + pick (class e .links && not (atHead m i)) (39 * n) 0
+  own-head : {e : Effect} {y : Next} → Steps b i c e y → Sort b m i e → IsResp (content m i) → headPart n (after e y) i ≤ headPart n c i + cond (class e .links && not (atHead m i)) (39 * n) 0
   own-head {e} {y} v (ordinary o) r =
       own-due (atHead m i) (atHead (effect i e m) i) (class e .links) _ _ (39 * n)
       (omega (arith, load-stays n i lt c (effect i e m) (advance n (c .task i) y) i o (paid v o))) (head-most n (after e y) i lt)
@@ -199,7 +199,7 @@ module _ (b : Object) (n i : ℕ) (lt : i < n) (c : Config) (safe : Safe c) (bel
   own-head {y = y} v (applies a) r = omega (arith, due-part (apply-head b n i c i y r a))
   own-head v (hands-over a) r = omega (arith, due-part (hand-over-head b n i c i v a))
 
-  own-course : {e : Effect} {y : Next} (v : Steps b i c e y) (h h′ : ℕ) → h′ ≤ 39 * n → h′ ≤ h + pick (class e .links && not (atHead m i)) (39 * n) 0
+  own-course : {e : Effect} {y : Next} (v : Steps b i c e y) (h h′ : ℕ) → h′ ≤ 39 * n → h′ ≤ h + cond (class e .links && not (atHead m i)) (39 * n) 0
       → Course (row (c .task i .phase)) (Falls n i m (effect i e m) h h′ (markPart n c i) (markPart n (after e y) i) (c .task i .phase) (phaseOf y) e) (kind (c .task i .phase)) e (kind (phaseOf y))
   own-course {e} {y} v h h′ most l =
       course b m i (c .task i .priority) (c .task i .operation) n h h′ (markPart n c i) (markPart n (after e y) i) most (mark-most n (after e y) i lt) v (safe .each i) l

@@ -1,6 +1,6 @@
 -- The ranges hold at the start in a good state and after every list of calls.
 use mathlib.Core.Path.{_≡_, refl}
-use mathlib.Core.Bool.{Bool, true, false}
+use mathlib.Core.Bool.{Bool, true, false, cond}
 use mathlib.Core.List.{List, [], _∷_}
 use Prim.Native.Nat.{ℕ, suc, _%_, _<_}
 use native.Mathlib.Omega.{arith}
@@ -8,7 +8,7 @@ use native.Mathlib.Nat.{mod-lt, one-le-pow}
 use Rattle.machine.specs.Marks.{add-below, remove-below}
 use Rattle.machine.specs.Object.{Object}
 use Rattle.machine.specs.Memory.{HeadValue, Free, Held, Content, Empty, Cell, Memory, stateOf, unmarked, update}
-use Rattle.machine.specs.Machine.{Phase, Task, linked, released, Next, Go, Turn, End, phaseOf, ends, turns, advance, pick}
+use Rattle.machine.specs.Machine.{Phase, Task, linked, released, Next, Go, Turn, End, phaseOf, ends, turns, advance}
 use Rattle.machine.specs.Kind.{kind, off}
 use Rattle.machine.specs.Run.{Config, Call, Served, start, idleTask, firstPhase, serve, run}
 use Rattle.machine.specs.Invariant.{TaskSafe, Safe}
@@ -83,7 +83,7 @@ module _ (b : Object) (n : ℕ) where
 
   -- What a step makes: its effect, the next phase, and the operation with its steps.
   abbrev NextFormed : (o s : ℕ) → Effect → Next → Type 0
-  NextFormed o s e y = EffectFormed e × PhaseFormed b n (phaseOf y) × OperationFormed b (kind (phaseOf y)) (pick (ends y) 0 o) (pick (ends y) 0 (suc s))
+  NextFormed o s e y = EffectFormed e × PhaseFormed b n (phaseOf y) × OperationFormed b (kind (phaseOf y)) (cond (ends y) 0 o) (cond (ends y) 0 (suc s))
 
   module _ {m : Memory} (s : MemoryFormed b n m) {i p x : ℕ} (below : i < n) (first : p < n) where
     next-formed : (k : ℕ) {f : Phase} {e : Effect} {y : Next} → Branch b m i p x f e y → off (kind f) ≡ false → TaskSafe m i x f → PhaseFormed b n f → OperationFormed b (kind f) x k → NextFormed x k e y
@@ -149,7 +149,7 @@ module _ (b : Object) (n : ℕ) where
     untouched = update-all (c .task) i t (λ j (r : Task). (j < n → ⊥) → r ≡ idleTask j) (λ u. absurd (u h)) (λ j _. z .untouched j);
   }
 
-  turned-below : {p : ℕ} (y : Next) → p < n → pick (turns y) (suc p % n) p < n
+  turned-below : {p : ℕ} (y : Next) → p < n → cond (turns y) (suc p % n) p < n
   turned-below (Go f) h = h
   turned-below (Turn f) h = mod-lt _ (omega arith)
   turned-below (End v) h = h

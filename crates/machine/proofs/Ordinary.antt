@@ -1,6 +1,6 @@
 -- What a step leaves to everybody else: an ordinary effect, the three stage changes, and the fate of an announcement.
 use mathlib.Core.Path.{_≡_, refl, sym, _∙_, ap}
-use mathlib.Core.Bool.{Bool, true, false, not}
+use mathlib.Core.Bool.{Bool, true, false, not, cond}
 use mathlib.Core.Logic.{_≢_}
 use Prim.Native.Nat.{ℕ, _+_, _*_, _≤_}
 use native.Mathlib.Decide.{ℕ-discrete}
@@ -8,7 +8,7 @@ use native.Mathlib.Omega.{arith}
 use Rattle.machine.specs.Marks.{has, add, has-none, has-add-other, has-remove, has-remove-other, add-has}
 use Rattle.machine.specs.Object.{Object}
 use Rattle.machine.specs.Memory.{HeadValue, Held, Content, Empty, Op, Resp, Cell, Memory, unmarked, head-dec, announcement-dec}
-use Rattle.machine.specs.Machine.{decided, pick, linked, released}
+use Rattle.machine.specs.Machine.{decided, linked, released}
 use Rattle.machine.specs.Invariant.{inHead, inAnnouncement, headValue, content, NotHolder}
 use Rattle.machine.specs.Potential.{Compared, NoWord, HeadWord, AnnouncementWord, one, stale}
 use Rattle.machine.proofs.Update.{update-all, update-same, update-other}
@@ -65,7 +65,7 @@ module _ (m : Memory) (i : ℕ) where
   unchanged = head-ordinary (m .head .marks) (class Unchanged) refl (λ _ _. refl) (omega arith) (λ _. omega arith)
 
   -- A mark that stands already changes nothing.
-  link-words : (w : Compared) (c : Bool) → inHead m i ≡ c → stale (effect i Linked m) w ≤ stale m w + pick c 0 3
+  link-words : (w : Compared) (c : Bool) → inHead m i ≡ c → stale (effect i Linked m) w ≤ stale m w + cond c 0 3
   link-words w true e =
       let z : effect i Linked m ≡ m = (λ t. record { head = record { value = headValue m; marks = add-has i (m .head .marks) e t }; announcement = m .announcement }) in
       rw z (omega arith)

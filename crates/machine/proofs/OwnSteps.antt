@@ -1,14 +1,14 @@
 -- The own steps of a pending operation: each is accepted; a reading operation ends in its first one, a read of the head; a changing
 -- one ends in the one that empties its announcement; and the count answered is that of the accepted steps since begin.
 use mathlib.Core.Path.{_≡_, refl, sym, _∙_, ap}
-use mathlib.Core.Bool.{Bool, true, false}
+use mathlib.Core.Bool.{Bool, true, false, cond}
 use mathlib.Core.List.{List}
 use Prim.Native.Nat.{ℕ, suc, _<_}
 use native.Mathlib.Omega.{arith}
 use native.Mathlib.Decide.{decLt}
 use Rattle.machine.specs.Object.{Object}
 use Rattle.machine.specs.Memory.{Content, Empty, Memory, stateOf, unmarked}
-use Rattle.machine.specs.Machine.{Phase, ReadHead, WriteAnnouncement, plan, Task, Next, Go, Turn, End, phaseOf, ends, pick}
+use Rattle.machine.specs.Machine.{Phase, ReadHead, WriteAnnouncement, plan, Task, Next, Go, Turn, End, phaseOf, ends}
 use Rattle.machine.specs.Kind.{Kind, Off, Reading, Opening, Looping, Exiting, Retracting, kind, off}
 use Rattle.machine.specs.Run.{Config, Call, Step, Running, Ended, Served, start, answerOf, serve, run, history}
 use Rattle.machine.specs.Book.{Book}
@@ -115,7 +115,7 @@ pub record OwnRecord (n : ℕ) (c : Config) (t o s : ℕ) : Type 0 where
   pub operation : c .task t .operation ≡ o
   pub steps : c .task t .steps ≡ s
 
-pends-record : (d : Bool) (o s o′ s′ : ℕ) → pick d Nothing (Pends o s) ≡ Pends o′ s′ → (d ≡ false) × (o ≡ o′) × (s ≡ s′)
+pends-record : (d : Bool) (o s o′ s′ : ℕ) → cond d Nothing (Pends o s) ≡ Pends o′ s′ → (d ≡ false) × (o ≡ o′) × (s ≡ s′)
 pends-record true o s o′ s′ e = (cc, cc, cc)
 pends-record false o s o′ s′ e = (refl, cc, cc)
 

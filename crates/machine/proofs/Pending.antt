@@ -1,13 +1,13 @@
 -- What is pending by the history is what is pending by the records.
 use mathlib.Core.Path.{_≡_, refl, sym, _∙_, ap}
-use mathlib.Core.Bool.{Bool, true, false}
+use mathlib.Core.Bool.{Bool, true, false, cond}
 use mathlib.Core.List.{List, [], _∷_}
 use Prim.Native.Nat.{ℕ, suc}
 use lib.Dec.{eqb}
 use borrow.Author.Tests.{eq-eqb, ne-eqb}
 use Rattle.machine.specs.Object.{Object}
 use Rattle.machine.specs.Memory.{update}
-use Rattle.machine.specs.Machine.{Task, Next, Go, Turn, End, phaseOf, ends, advance, pick}
+use Rattle.machine.specs.Machine.{Task, Next, Go, Turn, End, phaseOf, ends, advance}
 use Rattle.machine.specs.Kind.{kind, off}
 use Rattle.machine.specs.Run.{Config, Call, Served, start, firstPhase, answerOf, Step, serve, run, history}
 use Rattle.machine.specs.History.{Pending, Nothing, Pends, longer, heard, pendingFrom, pending}
@@ -17,21 +17,21 @@ use Rattle.machine.proofs.Progress.{progress, progress-pends}
 
 -- The pending operation in a record, with its count of steps.
 abbrev pub pendingOf : Task → Pending
-pendingOf t = pick (off (kind (t .phase))) Nothing (Pends (t .operation) (t .steps))
+pendingOf t = cond (off (kind (t .phase))) Nothing (Pends (t .operation) (t .steps))
 
 -- A record is changed, and what is pending for its task with it.
-changed : (f : ℕ → Task) (i : ℕ) (x : Task) (g : ℕ → Pending) → g i ≡ pendingOf x → (t : ℕ) → pick (eqb i t) (g t) (pendingOf (f t)) ≡ pendingOf (update f i x t)
-changed f i x g e = update-all f i x (λ t (y : Task). pick (eqb i t) (g t) (pendingOf (f t)) ≡ pendingOf y)
-    (ap (λ (z : Bool). pick z (g i) (pendingOf (f i))) (eq-eqb i i refl) ∙ e)
-    (λ t d. ap (λ (z : Bool). pick z (g t) (pendingOf (f t))) (ne-eqb i t d))
+changed : (f : ℕ → Task) (i : ℕ) (x : Task) (g : ℕ → Pending) → g i ≡ pendingOf x → (t : ℕ) → cond (eqb i t) (g t) (pendingOf (f t)) ≡ pendingOf (update f i x t)
+changed f i x g e = update-all f i x (λ t (y : Task). cond (eqb i t) (g t) (pendingOf (f t)) ≡ pendingOf y)
+    (ap (λ (z : Bool). cond z (g i) (pendingOf (f i))) (eq-eqb i i refl) ∙ e)
+    (λ t d. ap (λ (z : Bool). cond z (g t) (pendingOf (f t))) (ne-eqb i t d))
 
 begun-pends : (d : Bool) (o p : ℕ) → Pends o 0 ≡ pendingOf (record { phase = firstPhase d; operation = o; priority = p; steps = 0 })
 begun-pends true o p = refl
 begun-pends false o p = refl
 
 -- Two pending records: the second has made one more step with the operation.
-longer-pends : (d e : Bool) (o s : ℕ) → d ≡ false → e ≡ false → longer (pick d Nothing (Pends o s)) ≡ pick e Nothing (Pends o (suc s))
-longer-pends d e o s p q = ap (λ z. longer (pick z Nothing (Pends o s))) p ∙ ap (λ z. pick z Nothing (Pends o (suc s))) (sym q)
+longer-pends : (d e : Bool) (o s : ℕ) → d ≡ false → e ≡ false → longer (cond d Nothing (Pends o s)) ≡ cond e Nothing (Pends o (suc s))
+longer-pends d e o s p q = ap (λ z. longer (cond z Nothing (Pends o s))) p ∙ ap (λ z. cond z Nothing (Pends o (suc s))) (sym q)
 
 module _ (b : Object) (n : ℕ) where
   -- A step that runs is one more of the own steps; one that ends leaves nothing pending.

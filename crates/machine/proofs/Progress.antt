@@ -1,10 +1,10 @@
 -- The branches of a step as the book sees them: how the operation of the stepping task goes on, and who is entered before.
 use mathlib.Core.Path.{_≡_, refl}
-use mathlib.Core.Bool.{Bool, true, false}
+use mathlib.Core.Bool.{Bool, true, false, cond}
 use Prim.Native.Nat.{ℕ}
 use Rattle.machine.specs.Object.{Object}
 use Rattle.machine.specs.Memory.{HeadValue, Content, Resp, Cell, Memory, stateOf, head-dec}
-use Rattle.machine.specs.Machine.{Phase, Idle, ReadOnly, Announce, Poll, Apply, Retract, decided, pick, Next, Go, Turn, End, phaseOf, ends}
+use Rattle.machine.specs.Machine.{Phase, Idle, ReadOnly, Announce, Poll, Apply, Retract, decided, Next, Go, Turn, End, phaseOf, ends}
 use Rattle.machine.specs.Kind.{Kind, Off, Reading, Opening, Looping, Exiting, Retracting, kind, off}
 use Rattle.machine.specs.Invariant.{headValue, content}
 use Rattle.machine.specs.Book.{Book}
@@ -60,11 +60,11 @@ responded : {a : Content} {v : ℕ} → a ≡ Resp v → (h : HeadValue) (t : �
 responded e h t = rw e refl
 
 -- What is picked by a decision that is known either way.
-pick-yes : {A P : Type 0} (d : Dec P) (x y : A) → P → pick (decided d) x y ≡ x
+pick-yes : {A P : Type 0} (d : Dec P) (x y : A) → P → cond (decided d) x y ≡ x
 pick-yes (yes _) x y p = refl
 pick-yes (no n) x y p = absurd (n p)
 
-pick-no : {A P : Type 0} (d : Dec P) (x y : A) → (P → ⊥) → pick (decided d) x y ≡ y
+pick-no : {A P : Type 0} (d : Dec P) (x y : A) → (P → ⊥) → cond (decided d) x y ≡ y
 pick-no (yes p) x y n = absurd (n p)
 pick-no (no _) x y n = refl
 

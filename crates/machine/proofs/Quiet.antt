@@ -1,11 +1,11 @@
 -- A task with no changing operation pending leaves no trace in the cells; the head's holder has one pending.
 use mathlib.Core.Path.{_≡_, refl}
-use mathlib.Core.Bool.{true}
+use mathlib.Core.Bool.{true, cond}
 use Prim.Native.Nat.{ℕ, _<_}
 use native.Mathlib.Decide.{decLt}
 use Rattle.machine.specs.Object.{Object}
 use Rattle.machine.specs.Memory.{Held, Content, Empty, Memory}
-use Rattle.machine.specs.Machine.{Phase, Idle, ReadOnly, Announce, Poll, LoadHead, LinkHead, LoadPriority, LoadOwn, Apply, ReloadApply, LoadHelped, LinkHelped, Validate, HandOver, ReloadHandOver, Release, ReloadRelease, ClearHead, ReloadClear, LoadExit, LinkExit, ClearExit, ReleaseExit, Retract, pick}
+use Rattle.machine.specs.Machine.{Phase, Idle, ReadOnly, Announce, Poll, LoadHead, LinkHead, LoadPriority, LoadOwn, Apply, ReloadApply, LoadHelped, LinkHelped, Validate, HandOver, ReloadHandOver, Release, ReloadRelease, ClearHead, ReloadClear, LoadExit, LinkExit, ClearExit, ReleaseExit, Retract}
 use Rattle.machine.specs.Kind.{Kind, Off, Reading, Opening, Looping, Exiting, Retracting, kind, off, calm}
 use Rattle.machine.specs.Run.{Config}
 use Rattle.machine.specs.History.{Nothing, Pends, Reads}
@@ -49,7 +49,7 @@ calm-quiet m i o (Retract v) e s = clash e refl
 
 module _ (b : Object) where
   -- A pending operation that is reading is in its only phase.
-  reads-calm : (d : Kind) (o s : ℕ) → OperationFormed b d o s → Reads b (pick (off d) Nothing (Pends o s)) → calm d ≡ true
+  reads-calm : (d : Kind) (o s : ℕ) → OperationFormed b d o s → Reads b (cond (off d) Nothing (Pends o s)) → calm d ≡ true
   reads-calm Off o s y r = refl
   reads-calm Reading o s y r = refl
   reads-calm Opening o s y r = clash (y .1) r
@@ -58,7 +58,7 @@ module _ (b : Object) where
   reads-calm (Retracting v) o s y r = clash (y .1) r
 
   -- A task whose announcement isn't empty has a changing operation pending.
-  works : (d : Kind) (a : Content) (o s : ℕ) → OperationFormed b d o s → OwnContent a o d → (a ≡ Empty → ⊥) → (pick (off d) Nothing (Pends o s) ≡ Pends o s) × (b .changing o ≡ true)
+  works : (d : Kind) (a : Content) (o s : ℕ) → OperationFormed b d o s → OwnContent a o d → (a ≡ Empty → ⊥) → (cond (off d) Nothing (Pends o s) ≡ Pends o s) × (b .changing o ≡ true)
   works Off a o s y w n = absurd (n w)
   works Reading a o s y w n = absurd (n w)
   works Opening a o s y w n = absurd (n w)

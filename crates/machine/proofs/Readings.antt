@@ -1,10 +1,10 @@
 -- Small facts about the readings of the cells that the potential is made of.
 use mathlib.Core.Path.{_≡_, refl}
-use mathlib.Core.Bool.{Bool, true, false, not}
+use mathlib.Core.Bool.{Bool, true, false, not, cond}
 use Prim.Native.Nat.{ℕ, _≤_}
 use native.Mathlib.Omega.{arith}
 use Rattle.machine.specs.Memory.{Content, Empty, Op, Resp}
-use Rattle.machine.specs.Machine.{decided, pick}
+use Rattle.machine.specs.Machine.{decided}
 use Rattle.machine.specs.Invariant.{IsResp, IsOp}
 use Rattle.machine.specs.Potential.{one, answered, waiting}
 
@@ -12,11 +12,11 @@ pub one-le : (x : Bool) → one x ≤ 1
 one-le true = omega arith
 one-le false = omega arith
 
-pub pick-le : (x : Bool) (a : ℕ) → pick x a 0 ≤ a
+pub pick-le : (x : Bool) (a : ℕ) → cond x a 0 ≤ a
 pick-le true a = omega arith
 pick-le false a = omega arith
 
-pub pick-mono : (x : Bool) (a b : ℕ) → a ≤ b → pick x a 0 ≤ pick x b 0
+pub pick-mono : (x : Bool) (a b : ℕ) → a ≤ b → cond x a 0 ≤ cond x b 0
 pick-mono true a b h = h
 pick-mono false a b h = omega arith
 

@@ -1,8 +1,8 @@
 -- Bounds of the columns of the phases.
-use mathlib.Core.Bool.{Bool, true, false, not}
+use mathlib.Core.Bool.{Bool, true, false, not, cond}
 use Prim.Native.Nat.{_+_, _≤_}
 use native.Mathlib.Omega.{arith}
-use Rattle.machine.specs.Machine.{Phase, Idle, ReadOnly, Announce, Poll, LoadHead, LinkHead, LoadPriority, LoadOwn, Apply, ReloadApply, LoadHelped, LinkHelped, Validate, HandOver, ReloadHandOver, Release, ReloadRelease, ClearHead, ReloadClear, LoadExit, LinkExit, ClearExit, ReleaseExit, Retract, pick}
+use Rattle.machine.specs.Machine.{Phase, Idle, ReadOnly, Announce, Poll, LoadHead, LinkHead, LoadPriority, LoadOwn, Apply, ReloadApply, LoadHelped, LinkHelped, Validate, HandOver, ReloadHandOver, Release, ReloadRelease, ClearHead, ReloadClear, LoadExit, LinkExit, ClearExit, ReleaseExit, Retract}
 use Rattle.machine.specs.Potential.{helping, extra, looping, Row, row}
 
 -- What is to be known of the part of a rank that goes by the head, by the own mark in it and by the own response.
@@ -10,22 +10,22 @@ pub record Extra (held marked answered : Bool) : Type 0 where
   pub before : extra held answered marked false ≤ extra held answered marked true
   pub most : extra held answered marked true ≤ 29
   -- Polling and linking.
-  pub helps : helping held ≤ pick answered 10 (helping held)
-  pub loops : pick answered 0 (helping held) ≤ pick answered 10 (helping held)
-  pub twice : pick answered 10 (helping held) ≤ 10
-  pub links : extra held answered true true + pick marked 0 3 ≤ extra held answered marked false
-  pub links-exit : extra held answered true false + pick marked 0 3 ≤ extra held answered marked false
+  pub helps : helping held ≤ cond answered 10 (helping held)
+  pub loops : cond answered 0 (helping held) ≤ cond answered 10 (helping held)
+  pub twice : cond answered 10 (helping held) ≤ 10
+  pub links : extra held answered true true + cond marked 0 3 ≤ extra held answered marked false
+  pub links-exit : extra held answered true false + cond marked 0 3 ≤ extra held answered marked false
   -- The mark is lost, and the task polls.
   pub lost : looping 0 held false answered ≤ extra held answered false true
   -- Announcing and leaving.
   pub announces : extra held false marked false ≤ 3
   pub leaves : 16 + helping held ≤ extra held true marked false
   -- Another head without marks, and the own response.
-  pub renews : helping (not held) ≤ helping held + pick held 3 13
-  pub renews-before : extra (not held) answered false false ≤ extra held answered marked false + pick held 3 13
-  pub renews-past : extra (not held) answered false true ≤ extra held answered marked true + pick held 3 13
-  pub renews-loop : looping 10 (not held) false answered ≤ looping 10 held marked answered + pick held 3 13
-  pub renews-poll : looping 0 (not held) false answered ≤ looping 0 held marked answered + pick held 3 13
+  pub renews : helping (not held) ≤ helping held + cond held 3 13
+  pub renews-before : extra (not held) answered false false ≤ extra held answered marked false + cond held 3 13
+  pub renews-past : extra (not held) answered false true ≤ extra held answered marked true + cond held 3 13
+  pub renews-loop : looping 10 (not held) false answered ≤ looping 10 held marked answered + cond held 3 13
+  pub renews-poll : looping 0 (not held) false answered ≤ looping 0 held marked answered + cond held 3 13
   pub served-past : extra held true marked true ≤ extra held answered marked true + 26
   pub served-loop : looping 10 held marked true ≤ looping 10 held marked answered + 26
 
@@ -41,7 +41,7 @@ extras false false false = omega arith
 
 pub record Bounds (r : Row) (held marked answered : Bool) : Type 0 where
   pub rank : r .rank held marked answered ≤ 39
-  pub unmarked : r .rank (not held) false answered ≤ r .rank held marked answered + pick held 3 13
+  pub unmarked : r .rank (not held) false answered ≤ r .rank held marked answered + cond held 3 13
   pub served : r .rank held marked true ≤ r .rank held marked answered + 26
   pub last : r .position true ≤ 18
 

@@ -1,11 +1,11 @@
 -- The invariant holds at the start and after every list of calls.
 use mathlib.Core.Path.{_≡_, refl, sym}
-use mathlib.Core.Bool.{Bool, true, false}
+use mathlib.Core.Bool.{Bool, true, false, cond}
 use mathlib.Core.List.{List, [], _∷_}
 use Prim.Native.Nat.{ℕ}
 use Rattle.machine.specs.Object.{Object}
 use Rattle.machine.specs.Memory.{Memory}
-use Rattle.machine.specs.Machine.{Idle, Task, Next, Go, Turn, End, phaseOf, ends, advance, pick}
+use Rattle.machine.specs.Machine.{Idle, Task, Next, Go, Turn, End, phaseOf, ends, advance}
 use Rattle.machine.specs.Run.{Config, Call, Served, start, firstPhase, begun, serve, run}
 use Rattle.machine.specs.Invariant.{TaskSafe, Safe}
 use Rattle.machine.proofs.Update.{update-all}
@@ -25,7 +25,7 @@ safe-start q = record {
 
 module _ {m : Memory} {i : ℕ} where
   -- An ended task is safe whatever its operation was.
-  ended-safe : {o : ℕ} (y : Next) → TaskSafe m i o (phaseOf y) → TaskSafe m i (pick (ends y) 0 o) (phaseOf y)
+  ended-safe : {o : ℕ} (y : Next) → TaskSafe m i o (phaseOf y) → TaskSafe m i (cond (ends y) 0 o) (phaseOf y)
   ended-safe (Go f) s = s
   ended-safe (Turn f) s = s
   ended-safe (End v) s = record { own = s .own; head = s .head; saved = s .saved }

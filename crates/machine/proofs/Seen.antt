@@ -1,6 +1,6 @@
 -- A step as the other tasks see it: what it does to the rank and the distance of its task, and to what that task owes.
 use mathlib.Core.Path.{_≡_, refl, _∙_, ap}
-use mathlib.Core.Bool.{Bool, true, false, _&&_, not}
+use mathlib.Core.Bool.{Bool, true, false, _&&_, not, cond}
 use mathlib.Core.Logic.{_≢_}
 use Prim.Native.Nat.{ℕ, _+_, _*_, _≤_}
 use native.Mathlib.Decide.{ℕ-discrete}
@@ -8,7 +8,7 @@ use native.Mathlib.Omega.{arith}
 use Rattle.machine.specs.Marks.{has, add, remove, has-add, has-remove}
 use Rattle.machine.specs.Object.{Object}
 use Rattle.machine.specs.Memory.{Content, Empty, Op, Resp, Cell, Memory, unmarked, outcomeOf}
-use Rattle.machine.specs.Machine.{Phase, Poll, ClearHead, Next, phaseOf, turns, decided, pick, released}
+use Rattle.machine.specs.Machine.{Phase, Poll, ClearHead, Next, phaseOf, turns, decided, released}
 use Rattle.machine.specs.Invariant.{inHead, inAnnouncement, headValue, content, TaskSafe}
 use Rattle.machine.specs.Potential.{Row, row, Elsewhere, Applying, Finishing, one, answered, waiting, held, holds, dist, owed, owes}
 use Rattle.machine.proofs.Update.{update-same, update-other}
@@ -29,13 +29,13 @@ abbrev pub Seen : (m m′ : Memory) (i k n p t : ℕ) → Row → Row → Effect
 Seen m m′ i k n p t r r′ e y = record {
   rank : r′ .rank (held (headValue m′)) (inHead m′ i) (answered (content m′ i)) + class e .cost (inHead m i) ≤ r .rank (held (headValue m)) (inHead m i) (answered (content m i)) + 9 * class e .stage;
   turn : one (turns y) ≤ class e .stage;
-  distance : dist n p k (r′ .work) ≤ dist n p k (r .work) + pick (waiting (content m p)) 0 n;
+  distance : dist n p k (r′ .work) ≤ dist n p k (r .work) + cond (waiting (content m p)) 0 n;
   debt : owes m′ i t (r′ .work) + one (class e .marks i t) ≤ owes m i t (r .work) + 4 * one (class e .writes i t);
 }
 
 module _ (b : Object) (m : Memory) (i k o n p t : ℕ) (ex : Extra (held (headValue m)) (inHead m i) (answered (content m i))) where
   abbrev kept-debt : ℕ → ℕ
-  kept-debt j = pick (decided (ℕ-discrete j t) && (holds t (headValue m) && inHead m i)) 0 (owed m t)
+  kept-debt j = cond (decided (ℕ-discrete j t) && (holds t (headValue m) && inHead m i)) 0 (owed m t)
 
   announced : content (effect i (Announced o) m) i ≡ Op o
   announced = value-found (update-same (m .announcement) i (unmarked (Op o)))
@@ -47,7 +47,7 @@ module _ (b : Object) (m : Memory) (i k o n p t : ℕ) (ex : Extra (held (headVa
   away : (j v : ℕ) → j ≢ t → inAnnouncement (withAnnouncement m j (record { value = content m j; marks = v })) i t ≡ inAnnouncement m i t
   away j v d = ap (λ (s : Cell Content). has i (s .marks)) (update-other (m .announcement) j (record { value = content m j; marks = v }) t d)
 
-  marks-at : (j : ℕ) → one (mark-after (LinkedAt j)) + kept-debt j + one (decided (ℕ-discrete j t)) ≤ pick (decided (ℕ-discrete j t)) 2 (one (inAnnouncement m i t)) + kept-debt j
+  marks-at : (j : ℕ) → one (mark-after (LinkedAt j)) + kept-debt j + one (decided (ℕ-discrete j t)) ≤ cond (decided (ℕ-discrete j t)) 2 (one (inAnnouncement m i t)) + kept-debt j
   marks-at j = mark-owes (ℕ-discrete j t) (inAnnouncement m i t) (mark-after (LinkedAt j)) (kept-debt j) (away j (add i (m .announcement j .marks)))
 
   unmarks-at : (j : ℕ) → inAnnouncement m i j ≡ true → one (mark-after (ReleasedAt j)) + kept-debt j + one (decided (ℕ-discrete j t)) ≤ one (inAnnouncement m i t) + kept-debt j

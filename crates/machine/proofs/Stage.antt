@@ -1,7 +1,7 @@
 -- What the three stage changes do to the ranks, and to the part of the head in the potential of a task with its response,
 -- whoever steps.
 use mathlib.Core.Path.{_≡_, refl, sym}
-use mathlib.Core.Bool.{Bool, true, false, not}
+use mathlib.Core.Bool.{Bool, true, false, not, cond}
 use mathlib.Core.Logic.{_≢_}
 use Prim.Native.Nat.{ℕ, _+_, _*_, _≤_, _<_}
 use native.Mathlib.Decide.{ℕ-discrete}
@@ -9,7 +9,7 @@ use native.Mathlib.Omega.{arith}
 use Rattle.machine.specs.Marks.{has, has-none}
 use Rattle.machine.specs.Object.{Object}
 use Rattle.machine.specs.Memory.{HeadValue, Held, Content, Resp, Memory, unmarked}
-use Rattle.machine.specs.Machine.{Phase, Poll, Task, Next, phaseOf, turns, advance, pick}
+use Rattle.machine.specs.Machine.{Phase, Poll, Task, Next, phaseOf, turns, advance}
 use Rattle.machine.specs.Kind.{kind}
 use Rattle.machine.specs.Run.{Config}
 use Rattle.machine.specs.Invariant.{inHead, headValue, content, IsResp, OwnContent}
@@ -61,11 +61,11 @@ apply-turns n p t (apply {j = j} e) l h d = omega (arith, applies-other n p (t .
 
 -- A new head without marks raises every rank by at most 3 if it was held, and by at most 13 if it was free.
 pub ranks-unmarked : (n i : ℕ) (c : Config) (p : ℕ) (v : HeadValue) (t′ : Task) (w : Bool) → p < n → held (headValue (c .memory)) ≡ w → held v ≡ not w
-    → row (t′ .phase) .rank (not w) false (answered (content (c .memory) i)) ≤ row (c .task i .phase) .rank w (inHead (c .memory) i) (answered (content (c .memory) i)) + pick w 3 13
-    → ranks n (with i c (withHead (c .memory) (unmarked v)) t′) p + pick w 3 13 ≤ ranks n c p + n * pick w 3 13
+    → row (t′ .phase) .rank (not w) false (answered (content (c .memory) i)) ≤ row (c .task i .phase) .rank w (inHead (c .memory) i) (answered (content (c .memory) i)) + cond w 3 13
+    → ranks n (with i c (withHead (c .memory) (unmarked v)) t′) p + cond w 3 13 ≤ ranks n c p + n * cond w 3 13
 ranks-unmarked n i c p v t′ w h e f y =
-    but-rises n p (rankOf c) (rankOf (with i c (withHead (c .memory) (unmarked v)) t′)) (pick w 3 13) h
-    (update-all (c .task) i t′ (λ x (s : Task). row (s .phase) .rank (held v) (has x 0) (answered (content (c .memory) x)) ≤ rankOf c x + pick w 3 13)
+    but-rises n p (rankOf c) (rankOf (with i c (withHead (c .memory) (unmarked v)) t′)) (cond w 3 13) h
+    (update-all (c .task) i t′ (λ x (s : Task). row (s .phase) .rank (held v) (has x 0) (answered (content (c .memory) x)) ≤ rankOf c x + cond w 3 13)
     (rw (has-none i, rankOf, e, f) y)
     (λ x _. rw (has-none x, rankOf, e, f) (row-bounds (c .task x .phase) w (inHead (c .memory) x) (answered (content (c .memory) x)) .unmarked)))
 

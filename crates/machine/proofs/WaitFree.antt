@@ -1,13 +1,13 @@
 -- Every operation ends within a number of its own steps that follows from the number of tasks alone.
 use mathlib.Core.Path.{_≡_, ap}
-use mathlib.Core.Bool.{true, false}
+use mathlib.Core.Bool.{true, false, cond}
 use mathlib.Core.List.{List, [], _∷_}
 use Prim.Native.Nat.{ℕ, suc, _+_, _*_, _≤_, _<_}
 use native.Mathlib.Decide.{ℕ-discrete}
 use native.Mathlib.Nat.{mul-add, mul-left-comm, mul-le-mul-left, mul-le-mul-right}
 use native.Mathlib.Omega.{arith}
 use Rattle.machine.specs.Object.{Object}
-use Rattle.machine.specs.Machine.{Idle, Task, Next, Go, Turn, End, ends, advance, pick}
+use Rattle.machine.specs.Machine.{Idle, Task, Next, Go, Turn, End, ends, advance}
 use Rattle.machine.specs.Kind.{Kind, Off, kind, off}
 use Rattle.machine.specs.Run.{Config, Call, Ended, Served, start, answerOf, begun, serve, run}
 use Rattle.machine.specs.Invariant.{Safe}
@@ -57,7 +57,7 @@ module _ (b : Object) (n : ℕ) {c : Config} (safe : Safe c) (formed : Formed b 
     bounded-moved : (i : ℕ) {e : Effect} {y : Next} → i < n → off (kind (c .task i .phase)) ≡ false → Steps b i c e y → Bounded n (moved n i c e y)
     bounded-moved i {e} {y} h d v t l = go (ℕ-discrete i t)
       where
-        counted : (x : Next) → pick (ends x) 0 (suc (c .task i .steps)) ≤ suc (c .task i .steps)
+        counted : (x : Next) → cond (ends x) 0 (suc (c .task i .steps)) ≤ suc (c .task i .steps)
         counted (Go f) = omega arith
         counted (Turn f) = omega arith
         counted (End r) = omega arith

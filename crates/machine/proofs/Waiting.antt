@@ -1,6 +1,6 @@
 -- The potential of an operation that waits for its response, when the cells and the record of one task i change.
 use mathlib.Core.Path.{_≡_, refl, sym}
-use mathlib.Core.Bool.{Bool, _&&_, not}
+use mathlib.Core.Bool.{Bool, _&&_, not, cond}
 use mathlib.Core.Logic.{_≢_}
 use Prim.Native.Nat.{ℕ, _+_, _*_, _≤_, _<_}
 use native.Mathlib.Decide.{ℕ-discrete}
@@ -9,7 +9,7 @@ use native.Mathlib.Omega.{arith}
 use Rattle.machine.specs.Marks.{has}
 use Rattle.machine.specs.Object.{Object}
 use Rattle.machine.specs.Memory.{HeadValue, Free, Held, Content, Op, Resp, Cell, Memory, unmarked, either, update}
-use Rattle.machine.specs.Machine.{Poll, Task, cleared, pick}
+use Rattle.machine.specs.Machine.{Poll, Task, cleared}
 use Rattle.machine.specs.Run.{Config}
 use Rattle.machine.specs.Invariant.{inHead, headValue, content}
 use Rattle.machine.specs.Potential.{Row, row, answered, waiting, stale, held, but, rankOf, ranks, dist, distOf, dists, applyWeight, handOverWeight, clearWeight, cycleWeight, stageWeights, placeOf, waitingPotential, bound}
@@ -64,7 +64,7 @@ module _ (n i : ℕ) (lt : i < n) (c : Config) (m′ : Memory) (t′ : Task) whe
 -- They go by the value of the head and by the content of its holder's announcement.
 pub stages-stay : (n p d d′ : ℕ) (m m′ : Memory) (h : HeadValue) {h′ : HeadValue} → h′ ≡ h → d′ ≤ d → ((q j r : ℕ) → h ≡ Held q j r → content m′ j ≡ content m j) → stageWeights n p d′ m′ h′ ≤ stageWeights n p d m h
 stages-stay n p d d′ m m′ (Free q) e l f = rw e (omega (arith, mul-le-mul-right (cycleWeight n) l))
-stages-stay n p d d′ m m′ (Held q j r) e l f = rw (e, f q j r refl) (go (ℕ-discrete j p) (pick (waiting (content m j)) handOverWeight 0))
+stages-stay n p d d′ m m′ (Held q j r) e l f = rw (e, f q j r refl) (go (ℕ-discrete j p) (cond (waiting (content m j)) handOverWeight 0))
   where
     go : (k : Dec (j ≡ p)) (w : ℕ) → either k 0 (d′ * cycleWeight n + applyWeight n + clearWeight n + w) ≤ either k 0 (d * cycleWeight n + applyWeight n + clearWeight n + w)
     go (yes e) w = omega arith
@@ -74,13 +74,13 @@ pub stages-most : (n p d : ℕ) (m : Memory) (h : HeadValue) → stageWeights n 
 stages-most n p d m (Free q) = omega arith
 stages-most n p d m (Held q j r) = go (ℕ-discrete j p) (waiting (content m j))
   where
-    go : (k : Dec (j ≡ p)) (w : Bool) → either k 0 (d * cycleWeight n + applyWeight n + clearWeight n + pick w handOverWeight 0) ≤ (d + 1) * cycleWeight n
+    go : (k : Dec (j ≡ p)) (w : Bool) → either k 0 (d * cycleWeight n + applyWeight n + clearWeight n + cond w handOverWeight 0) ≤ (d + 1) * cycleWeight n
     go (yes e) w = omega arith
     go (no _) w = omega (arith, pick-le w handOverWeight)
 
 -- A stage change, while p waits with o.
 module _ (b : Object) (n : ℕ) (m : Memory) (i p o d d′ : ℕ) (f : content m p ≡ Op o) where
-  held-by : (m : Memory) (d q j r : ℕ) → j ≢ p → stageWeights n p d m (Held q j r) ≡ d * cycleWeight n + applyWeight n + clearWeight n + pick (waiting (content m j)) handOverWeight 0
+  held-by : (m : Memory) (d q j r : ℕ) → j ≢ p → stageWeights n p d m (Held q j r) ≡ d * cycleWeight n + applyWeight n + clearWeight n + cond (waiting (content m j)) handOverWeight 0
   held-by m d q j r z = either-no (ℕ-discrete j p) 0 _ z
 
   pub stages-clear : Allowed b m i Cleared → d′ ≤ d → stageWeights n p d′ (effect i Cleared m) (headValue (effect i Cleared m)) + clearWeight n ≤ stageWeights n p d m (headValue m)
@@ -91,7 +91,7 @@ module _ (b : Object) (n : ℕ) (m : Memory) (i p o d d′ : ℕ) (f : content m
       → stageWeights n p d′ (effect i (Applied q j r) m) (headValue (effect i (Applied q j r) m)) + applyWeight n ≤ stageWeights n p d m (headValue m)
   stages-apply q j r (c, x, h, y, _, _) l = rw h (go (ℕ-discrete j p))
     where
-      go : (k : Dec (j ≡ p)) → either k 0 (d′ * cycleWeight n + applyWeight n + clearWeight n + pick (waiting (content m j)) handOverWeight 0) + applyWeight n ≤ d * cycleWeight n + applyWeight n
+      go : (k : Dec (j ≡ p)) → either k 0 (d′ * cycleWeight n + applyWeight n + clearWeight n + cond (waiting (content m j)) handOverWeight 0) + applyWeight n ≤ d * cycleWeight n + applyWeight n
       go (yes e) = omega arith
       go (no z) = omega (arith, pick-le (waiting (content m j)) handOverWeight, mul-le-mul-right (cycleWeight n) (l z))
 

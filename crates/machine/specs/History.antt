@@ -1,11 +1,10 @@
 -- What is said of a history, a list of calls with their answers: pending operations, points of rest, and linearizability.
 use mathlib.Core.Path.{_≡_}
-use mathlib.Core.Bool.{false}
+use mathlib.Core.Bool.{false, cond}
 use mathlib.Core.List.{List, [], _∷_}
 use Prim.Native.Nat.{ℕ, zero, suc, _<_}
 use lib.Dec.{eqb}
 use Rattle.machine.specs.Object.{Object}
-use Rattle.machine.specs.Machine.{pick}
 use Rattle.machine.specs.Run.{Call, Begin, Step, Answer, Begun, Running, Ended, Refused, Event}
 use Rattle.machine.specs.Book.{Operation}
 
@@ -24,13 +23,13 @@ longer (Pends o s) = Pends o (suc s)
 -- What a call with its answer makes of the pending operation of task t: an accepted begin opens it, an accepted step is
 -- one more of its own steps, and *ended* closes it.
 abbrev pub heard : ℕ → Call → Answer → Pending → Pending
-heard t (Begin i o) Begun p = pick (eqb i t) (Pends o 0) p
+heard t (Begin i o) Begun p = cond (eqb i t) (Pends o 0) p
 heard t (Begin i o) Running p = p
 heard t (Begin i o) (Ended r k) p = p
 heard t (Begin i o) (Refused x) p = p
 heard t (Step i) Begun p = p
-heard t (Step i) Running p = pick (eqb i t) (longer p) p
-heard t (Step i) (Ended r k) p = pick (eqb i t) Nothing p
+heard t (Step i) Running p = cond (eqb i t) (longer p) p
+heard t (Step i) (Ended r k) p = cond (eqb i t) Nothing p
 heard t (Step i) (Refused x) p = p
 
 -- The pending operation of task t after more events.

@@ -1,10 +1,11 @@
 -- The machine's own way to keep the plain book: who is entered before which call. It is a function of the run so far.
+use mathlib.Core.Bool.{cond}
 use mathlib.Core.List.{List, [], _∷_}
 use Prim.Native.Nat.{ℕ, suc}
 use lib.Dec.{ltb}
 use Rattle.machine.specs.Object.{Object}
 use Rattle.machine.specs.Memory.{Memory, head-dec}
-use Rattle.machine.specs.Machine.{Phase, Idle, ReadOnly, Announce, Poll, LoadHead, LinkHead, LoadPriority, LoadOwn, Apply, ReloadApply, LoadHelped, LinkHelped, Validate, HandOver, ReloadHandOver, Release, ReloadRelease, ClearHead, ReloadClear, LoadExit, LinkExit, ClearExit, ReleaseExit, Retract, decided, pick}
+use Rattle.machine.specs.Machine.{Phase, Idle, ReadOnly, Announce, Poll, LoadHead, LinkHead, LoadPriority, LoadOwn, Apply, ReloadApply, LoadHelped, LinkHelped, Validate, HandOver, ReloadHandOver, Release, ReloadRelease, ClearHead, ReloadClear, LoadExit, LinkExit, ClearExit, ReleaseExit, Retract, decided}
 use Rattle.machine.specs.Run.{Config, Call, Begin, Step, Answer, Begun, Running, Ended, Refused, start, serve}
 use Rattle.machine.specs.Book.{Book, Page, Waiting, Done, blank, turned, entered}
 
@@ -28,7 +29,7 @@ enterBy b m i LoadHead k = k
 enterBy b m i (LinkHead h) k = k
 enterBy b m i (LoadPriority h) k = k
 enterBy b m i (LoadOwn h) k = k
-enterBy b m i (Apply h j o) k = pick (decided (head-dec (m .head) h)) (enter b j k) k
+enterBy b m i (Apply h j o) k = cond (decided (head-dec (m .head) h)) (enter b j k) k
 enterBy b m i (ReloadApply h j o) k = k
 enterBy b m i (LoadHelped h j) k = k
 enterBy b m i (LinkHelped h j a) k = k
@@ -47,7 +48,7 @@ enterBy b m i (Retract v) k = k
 
 abbrev pub enterFor : Object → ℕ → Call → Config → Book → Book
 enterFor b n (Begin i o) c k = k
-enterFor b n (Step i) c k = pick (ltb i n) (enterBy b (c .memory) i (c .task i .phase) k) k
+enterFor b n (Step i) c k = cond (ltb i n) (enterBy b (c .memory) i (c .task i .phase) k) k
 
 -- One more step on a page.
 abbrev pub counted : Page → Page

@@ -1,5 +1,5 @@
 -- The step machine: the phases of a task, the one access of a step (plan), the access itself (perform), and what follows from it (after).
-use mathlib.Core.Bool.{Bool, true, false}
+use mathlib.Core.Bool.{Bool, true, false, cond}
 use Prim.Native.Nat.{ℕ, suc, _%_}
 use native.Mathlib.Decide.{ℕ-discrete}
 use Rattle.machine.specs.Marks.{has, add, remove}
@@ -130,10 +130,6 @@ pub data Next : Type 0 where
   Go Turn : Phase → Next
   End : (response : ℕ) → Next
 
-abbrev pub pick : {A : Type 0} → Bool → A → A → A
-pick true a b = a
-pick false a b = b
-
 abbrev pub afterPoll : Content → Next
 afterPoll Empty = Go LoadHead
 afterPoll (Op o) = Go LoadHead
@@ -173,24 +169,24 @@ after b i p x ReadOnly r = End (b .outcome (stateOf (headRead r .value)) x)
 after b i p x Announce r = Go Poll
 after b i p x Poll r = afterPoll (announcementRead r .value)
 after b i p x LoadHead r = Go (LinkHead (headRead r))
-after b i p x (LinkHead h) r = pick (swapped r) (afterLink (linked i h) (h .value)) (Go Poll)
+after b i p x (LinkHead h) r = cond (swapped r) (afterLink (linked i h) (h .value)) (Go Poll)
 after b i p x (LoadPriority h) r = afterPriority h p (announcementRead r .value)
 after b i p x (LoadOwn h) r = afterOwn h i (announcementRead r .value)
-after b i p x (Apply h j o) r = pick (swapped r) (Turn Poll) (Go (ReloadApply h j o))
-after b i p x (ReloadApply h j o) r = pick (has i (headRead r .marks)) (Go (Apply (headRead r) j o)) (Go Poll)
+after b i p x (Apply h j o) r = cond (swapped r) (Turn Poll) (Go (ReloadApply h j o))
+after b i p x (ReloadApply h j o) r = cond (has i (headRead r .marks)) (Go (Apply (headRead r) j o)) (Go Poll)
 after b i p x (LoadHelped h j) r = Go (LinkHelped h j (announcementRead r))
-after b i p x (LinkHelped h j a) r = pick (swapped r) (afterLinkHelped h j (linked i a) (a .value)) (Go Poll)
-after b i p x (Validate h j a) r = pick (has i (headRead r .marks)) (Go (HandOver h j a)) (Go (Release h j a))
-after b i p x (HandOver h j a) r = pick (swapped r) (Go (ClearHead h j)) (Go (ReloadHandOver h j a))
-after b i p x (ReloadHandOver h j a) r = pick (has i (announcementRead r .marks)) (Go (HandOver h j (announcementRead r))) (Go (ClearHead h j))
-after b i p x (Release h j a) r = pick (swapped r) (Go (ClearHead h j)) (Go (ReloadRelease h j a))
-after b i p x (ReloadRelease h j a) r = pick (has i (announcementRead r .marks)) (Go (Release h j (announcementRead r))) (Go (ClearHead h j))
-after b i p x (ClearHead h j) r = pick (swapped r) (Go Poll) (Go (ReloadClear h j))
-after b i p x (ReloadClear h j) r = pick (has i (headRead r .marks)) (Go (ClearHead (headRead r) j)) (Go Poll)
+after b i p x (LinkHelped h j a) r = cond (swapped r) (afterLinkHelped h j (linked i a) (a .value)) (Go Poll)
+after b i p x (Validate h j a) r = cond (has i (headRead r .marks)) (Go (HandOver h j a)) (Go (Release h j a))
+after b i p x (HandOver h j a) r = cond (swapped r) (Go (ClearHead h j)) (Go (ReloadHandOver h j a))
+after b i p x (ReloadHandOver h j a) r = cond (has i (announcementRead r .marks)) (Go (HandOver h j (announcementRead r))) (Go (ClearHead h j))
+after b i p x (Release h j a) r = cond (swapped r) (Go (ClearHead h j)) (Go (ReloadRelease h j a))
+after b i p x (ReloadRelease h j a) r = cond (has i (announcementRead r .marks)) (Go (Release h j (announcementRead r))) (Go (ClearHead h j))
+after b i p x (ClearHead h j) r = cond (swapped r) (Go Poll) (Go (ReloadClear h j))
+after b i p x (ReloadClear h j) r = cond (has i (headRead r .marks)) (Go (ClearHead (headRead r) j)) (Go Poll)
 after b i p x (LoadExit v) r = afterExit (has i (headRead r .marks)) i v (headRead r) (headRead r .value)
-after b i p x (LinkExit h v) r = pick (swapped r) (Go (ClearExit (linked i h) v)) (Go (LoadExit v))
-after b i p x (ClearExit h v) r = pick (swapped r) (Go (Retract v)) (Go (LoadExit v))
-after b i p x (ReleaseExit h v) r = pick (swapped r) (Go (Retract v)) (Go (LoadExit v))
+after b i p x (LinkExit h v) r = cond (swapped r) (Go (ClearExit (linked i h) v)) (Go (LoadExit v))
+after b i p x (ClearExit h v) r = cond (swapped r) (Go (Retract v)) (Go (LoadExit v))
+after b i p x (ReleaseExit h v) r = cond (swapped r) (Go (Retract v)) (Go (LoadExit v))
 after b i p x (Retract v) r = End v
 
 abbrev pub phaseOf : Next → Phase
@@ -212,7 +208,7 @@ ends (End v) = true
 abbrev pub advance : ℕ → Task → Next → Task
 advance n t x = record {
   phase = phaseOf x;
-  operation = pick (ends x) 0 (t .operation);
-  priority = pick (turns x) (suc (t .priority) % n) (t .priority);
-  steps = pick (ends x) 0 (suc (t .steps));
+  operation = cond (ends x) 0 (t .operation);
+  priority = cond (turns x) (suc (t .priority) % n) (t .priority);
+  steps = cond (ends x) 0 (suc (t .steps));
 }

@@ -1,9 +1,9 @@
 -- The potential of an operation: a bound of the own steps that it may still take, whatever the other tasks do.
-use mathlib.Core.Bool.{Bool, true, false, _||_, _&&_, not}
+use mathlib.Core.Bool.{Bool, true, false, _||_, _&&_, not, cond}
 use Prim.Native.Nat.{ℕ, zero, suc, _+_, _*_, _-_, _≤_, _<_}
 use native.Mathlib.Decide.{ℕ-discrete, decLe}
 use Rattle.machine.specs.Memory.{HeadValue, Free, Held, Content, Empty, Op, Resp, Cell, Memory, either, head-dec, announcement-dec}
-use Rattle.machine.specs.Machine.{Phase, Idle, ReadOnly, Announce, Poll, LoadHead, LinkHead, LoadPriority, LoadOwn, Apply, ReloadApply, LoadHelped, LinkHelped, Validate, HandOver, ReloadHandOver, Release, ReloadRelease, ClearHead, ReloadClear, LoadExit, LinkExit, ClearExit, ReleaseExit, Retract, Task, decided, pick}
+use Rattle.machine.specs.Machine.{Phase, Idle, ReadOnly, Announce, Poll, LoadHead, LinkHead, LoadPriority, LoadOwn, Apply, ReloadApply, LoadHelped, LinkHelped, Validate, HandOver, ReloadHandOver, Release, ReloadRelease, ClearHead, ReloadClear, LoadExit, LinkExit, ClearExit, ReleaseExit, Retract, Task, decided}
 use Rattle.machine.specs.Kind.{Kind, Off, Reading, Opening, Looping, Exiting, Retracting, kind}
 use Rattle.machine.specs.Run.{Config}
 use Rattle.machine.specs.Invariant.{inHead, inAnnouncement, headValue, content}
@@ -49,7 +49,7 @@ always k answered = k
 
 -- What a held head adds to a rank: once it is linked, the announcement of its holder can be marked and unmarked.
 abbrev pub helping : Bool → ℕ
-helping held = pick held 10 0
+helping held = cond held 10 0
 
 abbrev pub fixed : ℕ → Bool → Bool → Bool → ℕ
 fixed k held marked answered = k + helping held
@@ -71,7 +71,7 @@ abbrev pub past : ℕ → Bool → Bool → Bool → ℕ
 past k held marked answered = k + extra held answered marked true
 
 abbrev pub looping : ℕ → Bool → Bool → Bool → ℕ
-looping k held marked answered = pick answered k (helping held) + extra held answered marked false
+looping k held marked answered = cond answered k (helping held) + extra held answered marked false
 
 abbrev pub columns : (Bool → ℕ) → (Bool → Bool → Bool → ℕ) → Compared → Bool → Work → Row
 columns p r c l w = record { position = p; rank = r; compared = c; linked = l; work = w }
@@ -80,7 +80,7 @@ abbrev pub row : Phase → Row
 row Idle = columns (always 0) (fixed 8) NoWord false Elsewhere
 row ReadOnly = columns (always 0) (fixed 8) NoWord false Elsewhere
 row Announce = columns (always 0) (fixed 8) NoWord false Elsewhere
-row Poll = columns (λ answered. pick answered 5 19) (looping 0) NoWord false Elsewhere
+row Poll = columns (λ answered. cond answered 5 19) (looping 0) NoWord false Elsewhere
 row LoadHead = columns (always 18) (looping 10) NoWord false Linking
 row (LinkHead h) = columns (always 17) (looping 10) (HeadWord h) false Linking
 row (LoadPriority h) = columns (always 9) (past 0) (HeadWord h) true Elsewhere
@@ -106,7 +106,7 @@ row (Retract v) = columns (always 1) (fixed 13) NoWord false Elsewhere
 
 -- 1 for yes.
 abbrev pub one : Bool → ℕ
-one x = pick x 1 0
+one x = cond x 1 0
 
 abbrev pub answered : Content → Bool
 answered Empty = false
@@ -172,7 +172,7 @@ gap n p k = either (decLe k p) (p - k) (p + n - k)
 
 -- How often a task can still apply somebody else before it applies p.
 abbrev pub dist : (n p k : ℕ) → Work → ℕ
-dist n p k w = either (ℕ-discrete k p) (pick (skips p w) n 0) (gap n p k)
+dist n p k w = either (ℕ-discrete k p) (cond (skips p w) n 0) (gap n p k)
 
 abbrev pub distOf : (n p : ℕ) → Config → ℕ → ℕ
 distOf n p c x = dist n p (c .task x .priority) (row (c .task x .phase) .work)
@@ -214,7 +214,7 @@ reserve n = 59 * n + 32
 -- What the stage changes up to the apply of task p may cost, by the sum d of the distances.
 abbrev pub stageWeights : (n p d : ℕ) → Memory → HeadValue → ℕ
 stageWeights n p d m (Free q) = d * cycleWeight n + applyWeight n
-stageWeights n p d m (Held q j r) = either (ℕ-discrete j p) 0 (d * cycleWeight n + applyWeight n + clearWeight n + pick (waiting (content m j)) handOverWeight 0)
+stageWeights n p d m (Held q j r) = either (ℕ-discrete j p) 0 (d * cycleWeight n + applyWeight n + clearWeight n + cond (waiting (content m j)) handOverWeight 0)
 
 -- The own place: in the loop, with a stale word, with the mark in the head lost.
 abbrev pub placeOf : Memory → ℕ → Row → ℕ
@@ -269,35 +269,35 @@ counts (Finishing j) = true
 
 -- What is owed to task t: 2 while it waits or holds the head.
 abbrev pub owed : Memory → ℕ → ℕ
-owed m t = pick (waiting (content m t) || holds t (headValue m)) 2 0
+owed m t = cond (waiting (content m t) || holds t (headValue m)) 2 0
 
 -- How often task x can still change the announcement of t while a mark of p stands there. One that works for the holder
 -- with its mark in the head owes nothing more.
 abbrev pub owes : Memory → (x t : ℕ) → Work → ℕ
 owes m x t w =
-    pick (approaches t w) 2 (one (inAnnouncement m x t))
-    + pick (worksFor t w && (holds t (headValue m) && inHead m x)) 0 (owed m t)
+    cond (approaches t w) 2 (one (inAnnouncement m x t))
+    + cond (worksFor t w && (holds t (headValue m) && inHead m x)) 0 (owed m t)
 
 -- The part of the head: due while the own mark stands in it or the task holds it.
 abbrev pub atHead : Memory → ℕ → Bool
 atHead m i = inHead m i || holds i (headValue m)
 
 abbrev pub headLoad : ℕ → Config → ℕ → ℕ
-headLoad n c i = ranks n c i + headWeight + pick (unanswered (c .memory) (headValue (c .memory))) responseRise 0
+headLoad n c i = ranks n c i + headWeight + cond (unanswered (c .memory) (headValue (c .memory))) responseRise 0
 
 abbrev pub headPart : ℕ → Config → ℕ → ℕ
-headPart n c i = pick (atHead (c .memory) i) (headLoad n c i) 0
+headPart n c i = cond (atHead (c .memory) i) (headLoad n c i) 0
 
 -- The part of the announcement of task t: due while the own mark stands in it.
 abbrev pub debts : ℕ → Config → (i t : ℕ) → ℕ
 debts n c i t = sum n (but i (λ x. owes (c .memory) x t (row (c .task x .phase) .work)))
 
 abbrev pub markPart : ℕ → Config → (i t : ℕ) → ℕ
-markPart n c i t = pick (inAnnouncement (c .memory) i t) (announcementWeight * (1 + debts n c i t)) 0
+markPart n c i t = cond (inAnnouncement (c .memory) i t) (announcementWeight * (1 + debts n c i t)) 0
 
 -- What is set aside before the links of the head and of an announcement, by the parts that are due then.
 abbrev pub headAside : ℕ → Work → ℕ
-headAside n w = pick (linking w) (greatestRank * n) 0
+headAside n w = cond (linking w) (greatestRank * n) 0
 
 abbrev pub announcementAside : ℕ → (ℕ → ℕ) → Work → ℕ
 announcementAside n marks Elsewhere = 0
@@ -311,7 +311,7 @@ announcementAside n marks (Finishing j) = 0
 -- The own place, with the part of the head and the parts of the announcements.
 abbrev pub lasts : (n head : ℕ) → (ℕ → ℕ) → Memory → Row → ℕ
 lasts n head marks m r =
-    head + headAside n (r .work) + announcementAside n marks (r .work) + pick (counts (r .work)) (stale m (r .compared)) 0 + r .position true
+    head + headAside n (r .work) + announcementAside n marks (r .work) + cond (counts (r .work)) (stale m (r .compared)) 0 + r .position true
 
 abbrev pub answeredPotential : ℕ → Config → ℕ → ℕ
 answeredPotential n c i = lasts n (headPart n c i) (markPart n c i) (c .memory) (row (c .task i .phase))

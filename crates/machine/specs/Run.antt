@@ -1,5 +1,5 @@
 -- Configurations, the calls begin and step with their answers, and lists of calls.
-use mathlib.Core.Bool.{Bool, true, false}
+use mathlib.Core.Bool.{Bool, true, false, cond}
 use mathlib.Core.List.{List, [], _∷_}
 use Prim.Native.Nat.{ℕ, suc}
 use lib.Dec.{ltb}
@@ -7,7 +7,7 @@ use Rattle.refusal.specs.declared.Refusal.{Refusal}
 use Rattle.refusal.specs.declared.Refusal.the-variants as cause
 use Rattle.machine.specs.Object.{Object}
 use Rattle.machine.specs.Memory.{Memory, image, update}
-use Rattle.machine.specs.Machine.{Phase, Idle, ReadOnly, Announce, Task, plan, result, perform, Next, Go, Turn, End, after, advance, pick}
+use Rattle.machine.specs.Machine.{Phase, Idle, ReadOnly, Announce, Task, plan, result, perform, Next, Go, Turn, End, after, advance}
 use Rattle.machine.specs.Kind.{kind, off}
 
 -- A configuration: the cells, and the record of each task.
@@ -56,9 +56,9 @@ begun b i o c = record {
 
 unfoldable pub begin : Object → (n i o : ℕ) → Config → Served
 begin b n i o c =
-    pick (ltb i n)
-    (pick (ltb o (b .operations))
-    (pick (off (kind (c .task i .phase))) (begun b i o c) (unserved c cause.Pending))
+    cond (ltb i n)
+    (cond (ltb o (b .operations))
+    (cond (off (kind (c .task i .phase))) (begun b i o c) (unserved c cause.Pending))
     (unserved c cause.Operation))
     (unserved c cause.Task)
 
@@ -84,7 +84,7 @@ stepped b n i c =
     }
 
 unfoldable pub step : Object → (n i : ℕ) → Config → Served
-step b n i c = pick (ltb i n) (pick (off (kind (c .task i .phase))) (unserved c cause.Idle) (stepped b n i c)) (unserved c cause.Task)
+step b n i c = cond (ltb i n) (cond (off (kind (c .task i .phase))) (unserved c cause.Idle) (stepped b n i c)) (unserved c cause.Task)
 
 abbrev pub serve : Object → ℕ → Call → Config → Served
 serve b n (Begin i o) c = begin b n i o c

@@ -12,7 +12,7 @@ use Rattle.table.specs.declared.Shape.{Shape}
 use Rattle.machine.specs.Object.{Object}
 use Rattle.machine.specs.Memory.{HeadValue, Free, Held, Content, Empty, Op, Resp, Cell, Memory, either, head-dec, announcement-dec}
 use Rattle.machine.specs.Machine as machine
-use Rattle.machine.specs.Machine.{Idle, ReadOnly, Announce, Poll, LoadHead, LinkHead, LoadPriority, LoadOwn, Apply, ReloadApply, LoadHelped, LinkHelped, Validate, HandOver, ReloadHandOver, Release, ReloadRelease, ClearHead, ReloadClear, LoadExit, LinkExit, ClearExit, ReleaseExit, Retract, decided, pick, linked, plan, result, after}
+use Rattle.machine.specs.Machine.{Idle, ReadOnly, Announce, Poll, LoadHead, LinkHead, LoadPriority, LoadOwn, Apply, ReloadApply, LoadHelped, LinkHelped, Validate, HandOver, ReloadHandOver, Release, ReloadRelease, ClearHead, ReloadClear, LoadExit, LinkExit, ClearExit, ReleaseExit, Retract, decided, linked, plan, result, after}
 use Rattle.machine.specs.Form.{MemoryFormed, PhaseFormed}
 use Rattle.transition.specs.declared.access.Found.the-variants.{Swapped, Unswapped}
 use Rattle.transition.specs.declared.access.Next.{Next}
@@ -30,11 +30,11 @@ pub data Encodes : machine.Next → Next → Type 0 where
   ends : (v : ℕ) → Encodes (machine.End v) (End v)
 
 -- By a test, and by whether a swap was made.
-choice : (test : Bool) {y y′ : machine.Next} {z z′ : Next} → Encodes y z → Encodes y′ z′ → Encodes (pick test y y′) (cond test z z′)
+choice : (test : Bool) {y y′ : machine.Next} {z z′ : Next} → Encodes y z → Encodes y′ z′ → Encodes (cond test y y′) (cond test z z′)
 choice true e e′ = e
 choice false e e′ = e′
 
-swap : (made : Bool) {y y′ : machine.Next} {z z′ : Next} → Encodes y z → Encodes y′ z′ → Encodes (pick made y y′) (cond (madeIn (cond made Swapped Unswapped)) z z′)
+swap : (made : Bool) {y y′ : machine.Next} {z z′ : Next} → Encodes y z → Encodes y′ z′ → Encodes (cond made y y′) (cond (madeIn (cond made Swapped Unswapped)) z z′)
 swap true e e′ = e
 swap false e e′ = e′
 
@@ -69,7 +69,7 @@ same-task j i (yes e) = eq-eqb j i e
 same-task j i (no e) = ne-eqb j i e
 
 module _ (i v : ℕ) (h : Cell HeadValue) where
-  holder-next : (marked : Bool) {P : Type 0} (d : Dec P) → Encodes (pick marked (either d (machine.Go (ClearExit h v)) (machine.Go (ReleaseExit h v))) (either d (machine.Go (LinkExit h v)) (machine.Go (Retract v)))) (afterExit v (encodeHead h) marked (decided d))
+  holder-next : (marked : Bool) {P : Type 0} (d : Dec P) → Encodes (cond marked (either d (machine.Go (ClearExit h v)) (machine.Go (ReleaseExit h v))) (either d (machine.Go (LinkExit h v)) (machine.Go (Retract v)))) (afterExit v (encodeHead h) marked (decided d))
   holder-next true (yes e) = goes (ClearExit h v)
   holder-next true (no e) = goes (ReleaseExit h v)
   holder-next false (yes e) = goes (LinkExit h v)
@@ -86,10 +86,10 @@ module _ (file : List ℕ) (shape : Shape) (table : ObjectTable file shape) (n :
   object = objectOf file shape table
 
   -- What the step leads to by the own mark in the head, or in the announcement of task j.
-  head-marked : {y y′ : machine.Next} {z z′ : Next} → Encodes y z → Encodes y′ z′ → Encodes (pick (has i (m .head .marks)) y y′) (cond (hasMark i (encodeHead (m .head))) z z′)
+  head-marked : {y y′ : machine.Next} {z z′ : Next} → Encodes y z → Encodes y′ z′ → Encodes (cond (has i (m .head .marks)) y y′) (cond (hasMark i (encodeHead (m .head))) z z′)
   head-marked e e′ = rw (head-has file shape table n most (m .head) (ranged .head) i below) (choice (has i (m .head .marks)) e e′)
 
-  announcement-marked : (j : ℕ) {y y′ : machine.Next} {z z′ : Next} → Encodes y z → Encodes y′ z′ → Encodes (pick (has i (m .announcement j .marks)) y y′) (cond (hasMark i (encodeAnnouncement (m .announcement j))) z z′)
+  announcement-marked : (j : ℕ) {y y′ : machine.Next} {z z′ : Next} → Encodes y z → Encodes y′ z′ → Encodes (cond (has i (m .announcement j .marks)) y y′) (cond (hasMark i (encodeAnnouncement (m .announcement j))) z z′)
   announcement-marked j e e′ = rw (announcement-has file shape table n most (m .announcement j) (ranged .announcement j) i below) (choice (has i (m .announcement j .marks)) e e′)
 
   -- Whether the swap is made that compares with a saved cell.
