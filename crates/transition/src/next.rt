@@ -17,27 +17,29 @@ ghost use Rattle.cells.specs.Layout.{headOf, announcementOf, addMark, hasMark};
 ghost use Rattle.table.specs.Entries.{entryOf};
 ghost use Rattle.transition.specs.Transition.{stateIn, holderIs, wordIn, madeIn, bare, withResponse, withHead, withBoth, afterPoll, afterLink, afterPriority, afterOwn, afterLinkHelped, afterExit, nextOf};
 
-// The word that was read, 0 if none was.
-fn word_in(found: Found) -> u64
-    ensures { λ r. ⌜ r ≡ wordIn found ⌝ }
-{
-    match found {
-        Found::Word(word) => word,
-        Found::Stored => 0,
-        Found::Swapped => 0,
-        Found::Unswapped => 0,
-    }
+// What an access told: the word that was read, 0 if none was, and whether the swap was made.
+struct Told {
+    word: u64,
+    made: bool,
 }
 
-// Whether the swap was made.
-fn made_in(found: Found) -> bool
-    ensures { λ r. ⌜ r ≡ madeIn found ⌝ }
+fn told_by(found: Found) -> Told
+    ensures { λ r. ⌜ (r .word ≡ wordIn found) × (r .made ≡ madeIn found) ⌝ }
 {
     match found {
-        Found::Word(_) => false,
-        Found::Stored => false,
-        Found::Swapped => true,
-        Found::Unswapped => false,
+        Found::Word(word) => Told { word, made: false },
+        Found::Stored => Told {
+            word: 0,
+            made: false,
+        },
+        Found::Swapped => Told {
+            word: 0,
+            made: true,
+        },
+        Found::Unswapped => Told {
+            word: 0,
+            made: false,
+        },
     }
 }
 
@@ -75,9 +77,10 @@ fn end(response: u16) -> Next
 }
 
 // By the own announcement: a response leads to the exit.
-fn after_poll(found: Announcement) -> Next
-    ensures { λ r. ⌜ r ≡ afterPoll found ⌝ }
+fn after_poll(word: u64) -> Next
+    ensures { λ r. ⌜ r ≡ afterPoll (announcementOf word) ⌝ }
 {
+    let found = announcement::read_announcement(word);
     match found {
         Announcement::Empty => to(Phase::LoadHead),
         Announcement::Operation(_) => to(Phase::LoadHead),
@@ -113,9 +116,10 @@ fn after_link_head(task: u8, own: Task, made: bool) -> Next
 }
 
 // By the announcement of the task that is helped first: its operation is applied.
-fn after_priority(priority: u8, own: Task, found: Announcement) -> Next
-    ensures { λ r. ⌜ r ≡ afterPriority (own .head) priority found ⌝ }
+fn after_priority(priority: u8, own: Task, word: u64) -> Next
+    ensures { λ r. ⌜ r ≡ afterPriority (own .head) priority (announcementOf word) ⌝ }
 {
+    let found = announcement::read_announcement(word);
     match found {
         Announcement::Empty => go(Phase::LoadOwn, 0, own.head, 0),
         Announcement::Operation(operation) => {
@@ -126,9 +130,10 @@ fn after_priority(priority: u8, own: Task, found: Announcement) -> Next
 }
 
 // By the own announcement, with the head linked: the own operation is applied.
-fn after_own(task: u8, own: Task, found: Announcement) -> Next
-    ensures { λ r. ⌜ r ≡ afterOwn (own .head) task found ⌝ }
+fn after_own(task: u8, own: Task, word: u64) -> Next
+    ensures { λ r. ⌜ r ≡ afterOwn (own .head) task (announcementOf word) ⌝ }
 {
+    let found = announcement::read_announcement(word);
     match found {
         Announcement::Empty => to(Phase::Poll),
         Announcement::Operation(operation) => {
@@ -287,32 +292,31 @@ pub fn next(
 ) -> Next
     ensures { λ r. ⌜ r ≡ nextOf (now (file .entry)) shape task priority own phase found ⌝ }
 {
-    let word = word_in(found);
-    let made = made_in(found);
+    let told = told_by(found);
     match phase {
         Phase::Idle => to(Phase::Idle),
-        Phase::ReadOnly => read_end(file, shape, own, word),
+        Phase::ReadOnly => read_end(file, shape, own, told.word),
         Phase::Announce => to(Phase::Poll),
-        Phase::Poll => after_poll(announcement::read_announcement(word)),
-        Phase::LoadHead => go(Phase::LinkHead, 0, word, 0),
-        Phase::LinkHead => after_link_head(task, own, made),
-        Phase::LoadPriority => after_priority(priority, own, announcement::read_announcement(word)),
-        Phase::LoadOwn => after_own(task, own, announcement::read_announcement(word)),
-        Phase::LoadExit => after_load_exit(task, own, word),
-        Phase::LinkExit => after_link_exit(task, own, made),
-        Phase::ClearExit => after_leave(own, made),
-        Phase::ReleaseExit => after_leave(own, made),
+        Phase::Poll => after_poll(told.word),
+        Phase::LoadHead => go(Phase::LinkHead, 0, told.word, 0),
+        Phase::LinkHead => after_link_head(task, own, told.made),
+        Phase::LoadPriority => after_priority(priority, own, told.word),
+        Phase::LoadOwn => after_own(task, own, told.word),
+        Phase::LoadExit => after_load_exit(task, own, told.word),
+        Phase::LinkExit => after_link_exit(task, own, told.made),
+        Phase::ClearExit => after_leave(own, told.made),
+        Phase::ReleaseExit => after_leave(own, told.made),
         Phase::Retract => end(words::named_by(own.payload)),
-        Phase::ClearHead => after_clear(own, made),
-        Phase::ReloadClear => after_reload(task, Phase::ClearHead, 0, word),
-        Phase::Apply(j) => after_apply(own, j, made),
-        Phase::ReloadApply(j) => after_reload(task, Phase::Apply(j), own.payload, word),
-        Phase::LoadHelped(j) => go(Phase::LinkHelped(j), 0, own.head, word),
-        Phase::LinkHelped(j) => after_link_helped(task, own, j, made),
-        Phase::Validate(j) => after_validate(task, own, j, word),
-        Phase::HandOver(j) => after_help(own, Phase::ReloadHandOver(j), made),
-        Phase::ReloadHandOver(j) => after_reload_helped(task, own, Phase::HandOver(j), word),
-        Phase::Release(j) => after_help(own, Phase::ReloadRelease(j), made),
-        Phase::ReloadRelease(j) => after_reload_helped(task, own, Phase::Release(j), word),
+        Phase::ClearHead => after_clear(own, told.made),
+        Phase::ReloadClear => after_reload(task, Phase::ClearHead, 0, told.word),
+        Phase::Apply(j) => after_apply(own, j, told.made),
+        Phase::ReloadApply(j) => after_reload(task, Phase::Apply(j), own.payload, told.word),
+        Phase::LoadHelped(j) => go(Phase::LinkHelped(j), 0, own.head, told.word),
+        Phase::LinkHelped(j) => after_link_helped(task, own, j, told.made),
+        Phase::Validate(j) => after_validate(task, own, j, told.word),
+        Phase::HandOver(j) => after_help(own, Phase::ReloadHandOver(j), told.made),
+        Phase::ReloadHandOver(j) => after_reload_helped(task, own, Phase::HandOver(j), told.word),
+        Phase::Release(j) => after_help(own, Phase::ReloadRelease(j), told.made),
+        Phase::ReloadRelease(j) => after_reload_helped(task, own, Phase::Release(j), told.word),
     }
 }

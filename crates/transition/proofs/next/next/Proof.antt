@@ -4,11 +4,8 @@ use borrow.Author.Needs.{needs}
 use Rattle.transition.proofs.next.next.Statement.{statement}
 use Rattle.transition.proofs.next.next.Tie as tie
 
-word-in-requires : tie.Need-word-in-requires
-word-in-requires c κs = search needs
-
-made-in-requires : tie.Need-made-in-requires
-made-in-requires c κs = search needs
+told-by-requires : tie.Need-told-by-requires
+told-by-requires c κs = search needs
 
 enum-told : tie.Need-enum-told
 enum-told c = search needs
@@ -31,9 +28,6 @@ to-requires-2 c κs = search needs
 enum-told-4 : tie.Need-enum-told-4
 enum-told-4 c = search needs
 
-read-announcement-requires : tie.Need-read-announcement-requires
-read-announcement-requires c κs = search needs
-
 after-poll-requires : tie.Need-after-poll-requires
 after-poll-requires c κs = search needs
 
@@ -52,17 +46,11 @@ after-link-head-requires c κs = search needs
 enum-told-7 : tie.Need-enum-told-7
 enum-told-7 c = search needs
 
-read-announcement-requires-2 : tie.Need-read-announcement-requires-2
-read-announcement-requires-2 c κs = search needs
-
 after-priority-requires : tie.Need-after-priority-requires
 after-priority-requires c κs = search needs
 
 enum-told-8 : tie.Need-enum-told-8
 enum-told-8 c = search needs
-
-read-announcement-requires-3 : tie.Need-read-announcement-requires-3
-read-announcement-requires-3 c κs = search needs
 
 after-own-requires : tie.Need-after-own-requires
 after-own-requires c κs = search needs
@@ -172,7 +160,7 @@ returns c = simp (c .to .ensures, c .before .enum-told .given .1)
 
 returns-2 : tie.Need-returns-2
 unfolding nextOf
-returns-2 c = simp (c .read-end .ensures, c .before .enum-told2 .given .1, c .before .before .before .before .word-in .ensures)
+returns-2 c = simp (c .read-end .ensures, c .before .enum-told2 .given .1, c .before .before .before .told-by .ensures .0)
 
 returns-3 : tie.Need-returns-3
 unfolding nextOf
@@ -180,57 +168,39 @@ returns-3 c = simp (c .to2 .ensures, c .before .enum-told3 .given .1)
 
 returns-4 : tie.Need-returns-4
 unfolding nextOf
-returns-4 c =
-    simp (
-      c .after-poll .ensures,
-      c .before .read-announcement .ensures,
-      c .before .before .enum-told4 .given .1,
-      c .before .before .before .before .before .word-in .ensures,
-    )
+returns-4 c = simp (c .after-poll .ensures, c .before .enum-told4 .given .1, c .before .before .before .told-by .ensures .0)
 
 returns-5 : tie.Need-returns-5
 unfolding nextOf
-returns-5 c = simp (c .go .ensures, c .before .enum-told5 .given .1, c .before .before .before .before .word-in .ensures)
+returns-5 c = simp (c .go .ensures, c .before .enum-told5 .given .1, c .before .before .before .told-by .ensures .0)
 
 returns-6 : tie.Need-returns-6
 unfolding nextOf
-returns-6 c = simp (c .after-link-head .ensures, c .before .enum-told6 .given .1, c .before .before .before .made-in .ensures)
+returns-6 c = simp (c .after-link-head .ensures, c .before .enum-told6 .given .1, c .before .before .before .told-by .ensures .1)
 
 returns-7 : tie.Need-returns-7
 unfolding nextOf
-returns-7 c =
-    simp (
-      c .after-priority .ensures,
-      c .before .read-announcement2 .ensures,
-      c .before .before .enum-told7 .given .1,
-      c .before .before .before .before .before .word-in .ensures,
-    )
+returns-7 c = simp (c .after-priority .ensures, c .before .enum-told7 .given .1, c .before .before .before .told-by .ensures .0)
 
 returns-8 : tie.Need-returns-8
 unfolding nextOf
-returns-8 c =
-    simp (
-      c .after-own .ensures,
-      c .before .read-announcement3 .ensures,
-      c .before .before .enum-told8 .given .1,
-      c .before .before .before .before .before .word-in .ensures,
-    )
+returns-8 c = simp (c .after-own .ensures, c .before .enum-told8 .given .1, c .before .before .before .told-by .ensures .0)
 
 returns-9 : tie.Need-returns-9
 unfolding nextOf
-returns-9 c = simp (c .after-load-exit .ensures, c .before .enum-told9 .given .1, c .before .before .before .before .word-in .ensures)
+returns-9 c = simp (c .after-load-exit .ensures, c .before .enum-told9 .given .1, c .before .before .before .told-by .ensures .0)
 
 returns-10 : tie.Need-returns-10
 unfolding nextOf
-returns-10 c = simp (c .after-link-exit .ensures, c .before .enum-told10 .given .1, c .before .before .before .made-in .ensures)
+returns-10 c = simp (c .after-link-exit .ensures, c .before .enum-told10 .given .1, c .before .before .before .told-by .ensures .1)
 
 returns-11 : tie.Need-returns-11
 unfolding nextOf
-returns-11 c = simp (c .after-leave .ensures, c .before .enum-told11 .given .1, c .before .before .before .made-in .ensures)
+returns-11 c = simp (c .after-leave .ensures, c .before .enum-told11 .given .1, c .before .before .before .told-by .ensures .1)
 
 returns-12 : tie.Need-returns-12
 unfolding nextOf
-returns-12 c = simp (c .after-leave2 .ensures, c .before .enum-told12 .given .1, c .before .before .before .made-in .ensures)
+returns-12 c = simp (c .after-leave2 .ensures, c .before .enum-told12 .given .1, c .before .before .before .told-by .ensures .1)
 
 returns-13 : tie.Need-returns-13
 unfolding nextOf
@@ -238,54 +208,53 @@ returns-13 c = simp (c .end .ensures, c .before .named-by .ensures, c .before .b
 
 returns-14 : tie.Need-returns-14
 unfolding nextOf
-returns-14 c = simp (c .after-clear .ensures, c .before .enum-told14 .given .1, c .before .before .before .made-in .ensures)
+returns-14 c = simp (c .after-clear .ensures, c .before .enum-told14 .given .1, c .before .before .before .told-by .ensures .1)
 
 returns-15 : tie.Need-returns-15
 unfolding nextOf
-returns-15 c = simp (c .after-reload .ensures, c .before .enum-told15 .given .1, c .before .before .before .before .word-in .ensures)
+returns-15 c = simp (c .after-reload .ensures, c .before .enum-told15 .given .1, c .before .before .before .told-by .ensures .0)
 
 returns-16 : tie.Need-returns-16
 unfolding nextOf
-returns-16 c = simp (c .after-apply .ensures, c .before .before .phase .given .1, c .before .before .before .before .made-in .ensures)
+returns-16 c = simp (c .after-apply .ensures, c .before .before .phase .given .1, c .before .before .before .before .told-by .ensures .1)
 
 returns-17 : tie.Need-returns-17
 unfolding nextOf
-returns-17 c = simp (c .after-reload2 .ensures, c .before .before .phase2 .given .1, c .before .before .before .before .before .word-in .ensures)
+returns-17 c = simp (c .after-reload2 .ensures, c .before .before .phase2 .given .1, c .before .before .before .before .told-by .ensures .0)
 
 returns-18 : tie.Need-returns-18
 unfolding nextOf
-returns-18 c = simp (c .go2 .ensures, c .before .before .phase3 .given .1, c .before .before .before .before .before .word-in .ensures)
+returns-18 c = simp (c .go2 .ensures, c .before .before .phase3 .given .1, c .before .before .before .before .told-by .ensures .0)
 
 returns-19 : tie.Need-returns-19
 unfolding nextOf
-returns-19 c = simp (c .after-link-helped .ensures, c .before .before .phase4 .given .1, c .before .before .before .before .made-in .ensures)
+returns-19 c = simp (c .after-link-helped .ensures, c .before .before .phase4 .given .1, c .before .before .before .before .told-by .ensures .1)
 
 returns-20 : tie.Need-returns-20
 unfolding nextOf
-returns-20 c = simp (c .after-validate .ensures, c .before .before .phase5 .given .1, c .before .before .before .before .before .word-in .ensures)
+returns-20 c = simp (c .after-validate .ensures, c .before .before .phase5 .given .1, c .before .before .before .before .told-by .ensures .0)
 
 returns-21 : tie.Need-returns-21
 unfolding nextOf
-returns-21 c = simp (c .after-help .ensures, c .before .before .phase6 .given .1, c .before .before .before .before .made-in .ensures)
+returns-21 c = simp (c .after-help .ensures, c .before .before .phase6 .given .1, c .before .before .before .before .told-by .ensures .1)
 
 returns-22 : tie.Need-returns-22
 unfolding nextOf
-returns-22 c = simp (c .after-reload-helped .ensures, c .before .before .phase7 .given .1, c .before .before .before .before .before .word-in .ensures)
+returns-22 c = simp (c .after-reload-helped .ensures, c .before .before .phase7 .given .1, c .before .before .before .before .told-by .ensures .0)
 
 returns-23 : tie.Need-returns-23
 unfolding nextOf
-returns-23 c = simp (c .after-help2 .ensures, c .before .before .phase8 .given .1, c .before .before .before .before .made-in .ensures)
+returns-23 c = simp (c .after-help2 .ensures, c .before .before .phase8 .given .1, c .before .before .before .before .told-by .ensures .1)
 
 returns-24 : tie.Need-returns-24
 unfolding nextOf
-returns-24 c = simp (c .after-reload-helped2 .ensures, c .before .before .phase9 .given .1, c .before .before .before .before .before .word-in .ensures)
+returns-24 c = simp (c .after-reload-helped2 .ensures, c .before .before .phase9 .given .1, c .before .before .before .before .told-by .ensures .0)
 
 pub next-spec : {M : Type 1} → statement M
 next-spec =
     tie.close
     (tie.spec
-    word-in-requires
-    made-in-requires
+    told-by-requires
     enum-told
     to-requires
     enum-told-2
@@ -293,17 +262,14 @@ next-spec =
     enum-told-3
     to-requires-2
     enum-told-4
-    read-announcement-requires
     after-poll-requires
     enum-told-5
     go-requires
     enum-told-6
     after-link-head-requires
     enum-told-7
-    read-announcement-requires-2
     after-priority-requires
     enum-told-8
-    read-announcement-requires-3
     after-own-requires
     enum-told-9
     after-load-exit-requires
