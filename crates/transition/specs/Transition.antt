@@ -151,6 +151,10 @@ withHead f h = Go f 0 h 0
 abbrev pub withBoth : Phase → (h a : ℕ) → Next
 withBoth f h a = Go f 0 h a
 
+-- After a link that fails a task looks for its own response before it tries again.
+abbrev pub failedLink : Next
+failedLink = bare Poll
+
 abbrev pub afterPoll : Announcement → Next
 afterPoll content.Empty = bare LoadHead
 afterPoll (content.Operation o) = bare LoadHead
@@ -195,7 +199,7 @@ nextOf file shape i p t ReadOnly g = End (entryOf file shape (stateIn (headOf (w
 nextOf file shape i p t Announce g = bare Poll
 nextOf file shape i p t Poll g = afterPoll (announcementOf (wordIn g))
 nextOf file shape i p t LoadHead g = withHead LinkHead (wordIn g)
-nextOf file shape i p t LinkHead g = cond (madeIn g) (afterLink (addMark i (t .head)) (headOf (t .head))) (bare Poll)
+nextOf file shape i p t LinkHead g = cond (madeIn g) (afterLink (addMark i (t .head)) (headOf (t .head))) failedLink
 nextOf file shape i p t LoadPriority g = afterPriority (t .head) p (announcementOf (wordIn g))
 nextOf file shape i p t LoadOwn g = afterOwn (t .head) i (announcementOf (wordIn g))
 nextOf file shape i p t LoadExit g = afterExit (t .payload) (wordIn g) (hasMark i (wordIn g)) (holderIs i (headOf (wordIn g)))
@@ -209,7 +213,7 @@ nextOf file shape i p t (Apply j) g = cond (madeIn g) Turn (Go (ReloadApply j) (
 nextOf file shape i p t (ReloadApply j) g = cond (hasMark i (wordIn g)) (Go (Apply j) (t .payload) (wordIn g) 0) (bare Poll)
 nextOf file shape i p t (LoadHelped j) g = withBoth (LinkHelped j) (t .head) (wordIn g)
 nextOf file shape i p t (LinkHelped j) g =
-    cond (madeIn g) (afterLinkHelped (t .head) j (addMark i (t .announcement)) (announcementOf (t .announcement))) (bare Poll)
+    cond (madeIn g) (afterLinkHelped (t .head) j (addMark i (t .announcement)) (announcementOf (t .announcement))) failedLink
 nextOf file shape i p t (Validate j) g =
     cond (hasMark i (wordIn g)) (withBoth (HandOver j) (t .head) (t .announcement)) (withBoth (Release j) (t .head) (t .announcement))
 nextOf file shape i p t (HandOver j) g = cond (madeIn g) (withHead ClearHead (t .head)) (withBoth (ReloadHandOver j) (t .head) (t .announcement))

@@ -15,7 +15,7 @@ ghost use mathlib.Core.Path.{_≡_};
 ghost use mathlib.Core.Bool.{cond};
 ghost use Rattle.cells.specs.Layout.{headOf, announcementOf, addMark, hasMark};
 ghost use Rattle.table.specs.Entries.{entryOf};
-ghost use Rattle.transition.specs.Transition.{stateIn, holderIs, wordIn, madeIn, bare, withResponse, withHead, withBoth, afterPoll, afterLink, afterPriority, afterOwn, afterLinkHelped, afterExit, nextOf};
+ghost use Rattle.transition.specs.Transition.{stateIn, holderIs, wordIn, madeIn, bare, withResponse, withHead, withBoth, failedLink, afterPoll, afterLink, afterPriority, afterOwn, afterLinkHelped, afterExit, nextOf};
 
 // What an access told: the word that was read, 0 if none was, and whether the swap was made.
 struct Told {
@@ -102,12 +102,19 @@ fn after_link(word: u64, found: Head) -> Next
     }
 }
 
-// A link of the head that fails starts the loop again.
+// After a link that fails a task looks for its own response before it tries again.
+fn after_failed_link() -> Next
+    ensures { λ r. ⌜ r ≡ failedLink ⌝ }
+{
+    go(Phase::Poll, 0, 0, 0)
+}
+
+// After a swap that links the head.
 fn after_link_head(task: u8, own: Task, made: bool) -> Next
-    ensures { λ r. ⌜ r ≡ cond made (afterLink (addMark task (own .head)) (headOf (own .head))) (bare Phase.Poll) ⌝ }
+    ensures { λ r. ⌜ r ≡ cond made (afterLink (addMark task (own .head)) (headOf (own .head))) failedLink ⌝ }
 {
     if !made {
-        return to(Phase::Poll);
+        return after_failed_link();
     }
     after_link(
         marks::add_mark(own.head, task as usize),
@@ -227,10 +234,10 @@ fn after_linked(own: Task, helped: u8, linked: u64) -> Next
 
 // A link of the helped announcement that fails starts the loop again.
 fn after_link_helped(task: u8, own: Task, helped: u8, made: bool) -> Next
-    ensures { λ r. ⌜ r ≡ cond made (afterLinkHelped (own .head) helped (addMark task (own .announcement)) (announcementOf (own .announcement))) (bare Phase.Poll) ⌝ }
+    ensures { λ r. ⌜ r ≡ cond made (afterLinkHelped (own .head) helped (addMark task (own .announcement)) (announcementOf (own .announcement))) failedLink ⌝ }
 {
     if !made {
-        return to(Phase::Poll);
+        return after_failed_link();
     }
     after_linked(
         own,

@@ -3,11 +3,11 @@ use borrow.Author.Needs.{needs}
 use Rattle.transition.proofs.next.after_link_head.Statement.{statement}
 use Rattle.transition.proofs.next.after_link_head.Tie as tie
 
-to-requires : tie.Need-to-requires
-to-requires c κs = search needs
+after-failed-link-requires : tie.Need-after-failed-link-requires
+after-failed-link-requires c κs = search needs
 
 returns : tie.Need-returns
-returns c = simp (c .to .ensures, not-true (c .before .before .args .made) (c .before .if1 .taken))
+returns c = simp (c .after-failed-link .ensures, not-true (c .before .before .args .made) (c .before .if1 .taken))
 
 add-mark-requires : tie.Need-add-mark-requires
 add-mark-requires c κs = search needs
@@ -31,7 +31,7 @@ pub after-link-head-spec : {M : Type 1} → statement M
 after-link-head-spec =
     tie.close
     (tie.spec
-    to-requires
+    after-failed-link-requires
     returns
     add-mark-requires
     read-head-requires
