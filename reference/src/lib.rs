@@ -40,3 +40,5 @@ pub mod table_file;
 mod transition;
 #[cfg(test)]
 mod wrong_rules;
+#[cfg(test)]
+mod wrong_transitions;
