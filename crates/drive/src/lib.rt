@@ -1,4 +1,4 @@
-// The calls on a lent row of task records: start fills it, begin and step take one record out and put it back.
+// The calls on a lent row of task records: start fills it, begin and step take one record out, lend it and put it back.
 use records::record;
 use records::record::Task;
 use stepping::call;
