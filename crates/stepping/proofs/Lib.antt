@@ -13,5 +13,6 @@ pub mod Advances
 pub mod Simulation
 pub mod Starts
 pub mod Demands
+pub mod Between
 pub mod Theorem
 pub mod Cases
