@@ -4,7 +4,7 @@ pub mod Ready
 pub mod Parts
 pub mod Refused
 pub mod Local
-pub mod Rule
+pub mod AccessRule
 pub mod Tables
 pub mod Records
 pub mod Accesses

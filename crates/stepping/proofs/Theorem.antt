@@ -25,7 +25,7 @@ use Rattle.stepping.specs.Statement.{Demands, SharperDemands, Independen
 use Rattle.stepping.proofs.Between.{between, opens-next}
 use Rattle.stepping.proofs.Demands.{opens, history-opened, answer-opened, access-opened, refused-opened, demands, emptied}
 use Rattle.stepping.proofs.Local.{step-local, step-elsewhere}
-use Rattle.stepping.proofs.Rule.{makes-access, follows-result, row-makes-access, row-follows-result}
+use Rattle.stepping.proofs.AccessRule.{makes-access, follows-result, row-makes-access, row-follows-result}
 use Rattle.stepping.proofs.Starts.{startable, accepted-start}
 
 -- ---- The access rule
