@@ -1,5 +1,5 @@
 -- What a step leads to, from an encoded record and an encoded result.
-use mathlib.Core.Path.{_≡_, refl}
+use mathlib.Core.Path.{_≡_, refl, sym, subst}
 use mathlib.Core.Bool.{Bool, true, false, cond}
 use mathlib.Core.List.{List}
 use Prim.Native.Nat.{ℕ, _<_, _≤_}
@@ -130,4 +130,4 @@ module _ (file : List ℕ) (shape : Shape) (table : ObjectTable file shape) (n :
   next-simulates (LinkExit h v) r = rw (head-linked file shape table n most h (r .0) i below) (swap (headMade h) (goes (ClearExit (linked i h) v)) (goes (LoadExit v)))
   next-simulates (ClearExit h v) r = swap (headMade h) (goes (Retract v)) (goes (LoadExit v))
   next-simulates (ReleaseExit h v) r = swap (headMade h) (goes (Retract v)) (goes (LoadExit v))
-  next-simulates (Retract v) r = rw (named-outcome file shape table n most v r) (ends v)
+  next-simulates (Retract v) r = subst (λ w. Encodes (machine.End v) (End w)) (sym (named-outcome file shape table n most v r)) (ends v)
