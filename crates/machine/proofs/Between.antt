@@ -3,7 +3,8 @@ use mathlib.Core.Path.{_≡_, refl, sym, _∙_, ap}
 use mathlib.Core.Bool.{true, false}
 use mathlib.Core.Logic.{_≢_}
 use Prim.Native.Nat.{ℕ, _<_}
-use Rattle.machine.specs.Object.{Object, Opens}
+use Rattle.machine.specs.Object.{Object}
+use Rattle.machine.specs.Lawful.{Opens}
 use Rattle.machine.specs.Memory.{Content, Cell, Memory, stateOf}
 use Rattle.machine.specs.Machine.{Phase, ReadOnly, Announce, Poll, Next, Go, Turn, End}
 use Rattle.machine.specs.Kind.{Looping, kind, off}

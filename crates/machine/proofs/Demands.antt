@@ -6,7 +6,8 @@ use Prim.Native.Nat.{ℕ, _*_, _≤_, _<_}
 use native.Mathlib.Nat.{zero-add}
 use native.Mathlib.Omega.{arith}
 use lib.ListN.{length}
-use Rattle.machine.specs.Object.{Object, Opens}
+use Rattle.machine.specs.Object.{Object}
+use Rattle.machine.specs.Lawful.{Opens}
 use Rattle.machine.specs.Memory.{Memory, image}
 use Rattle.machine.specs.Run.{start, serve, run, history}
 use Rattle.machine.specs.Calls.{Call}

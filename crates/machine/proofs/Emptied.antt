@@ -4,7 +4,8 @@ use mathlib.Core.Bool.{Bool, true, false}
 use mathlib.Core.List.{List, [], _∷_, _++_}
 use Prim.Native.Nat.{ℕ, suc, _<_}
 use native.Mathlib.Decide.{ℕ-discrete}
-use Rattle.machine.specs.Object.{Object, Opens}
+use Rattle.machine.specs.Object.{Object}
+use Rattle.machine.specs.Lawful.{Opens}
 use Rattle.machine.specs.Memory.{Content, Empty, Memory}
 use Rattle.machine.specs.Machine.{Phase, Task, Next, Go, Turn, End, phaseOf, ends, advance}
 use Rattle.machine.specs.Kind.{Kind, Off, Reading, Opening, Looping, Exiting, Retracting, kind, off}

@@ -6,7 +6,8 @@ use Prim.Native.Nat.{ℕ, suc, _%_, _<_}
 use native.Mathlib.Omega.{arith}
 use native.Mathlib.Nat.{mod-lt, one-le-pow}
 use Rattle.cells.proofs.MarkLaws.{add-below, remove-below}
-use Rattle.machine.specs.Object.{Object, Lawful, Opens}
+use Rattle.machine.specs.Object.{Object}
+use Rattle.machine.specs.Lawful.{Lawful, Opens}
 use Rattle.machine.specs.Memory.{HeadValue, Free, Held, Content, Empty, Cell, Memory, stateOf, unmarked}
 use Rattle.machine.specs.Update.{update}
 use Rattle.machine.specs.Machine.{Phase, Task, linked, released, Next, Go, Turn, End, phaseOf, ends, turns, advance}

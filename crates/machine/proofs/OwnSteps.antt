@@ -6,7 +6,8 @@ use mathlib.Core.List.{List}
 use Prim.Native.Nat.{ℕ, suc, _<_}
 use native.Mathlib.Omega.{arith}
 use native.Mathlib.Decide.{decLt}
-use Rattle.machine.specs.Object.{Object, Opens}
+use Rattle.machine.specs.Object.{Object}
+use Rattle.machine.specs.Lawful.{Opens}
 use Rattle.machine.specs.Memory.{Content, Empty, Memory, stateOf, unmarked}
 use Rattle.machine.specs.Machine.{Phase, ReadHead, WriteAnnouncement, plan, Task, Next, Go, Turn, End, phaseOf, ends}
 use Rattle.machine.specs.Kind.{Kind, Off, Reading, Opening, Looping, Exiting, Retracting, kind, off}

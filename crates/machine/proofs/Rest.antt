@@ -5,7 +5,8 @@ use mathlib.Core.List.{List}
 use mathlib.Core.Logic.{_↔_}
 use Prim.Native.Nat.{ℕ}
 use Rattle.cells.proofs.MarkLaws.{none-has}
-use Rattle.machine.specs.Object.{Object, Opens}
+use Rattle.machine.specs.Object.{Object}
+use Rattle.machine.specs.Lawful.{Opens}
 use Rattle.machine.specs.Memory.{HeadValue, Free, Held, Memory, stateOf, image}
 use Rattle.machine.specs.Run.{start, run, history}
 use Rattle.machine.specs.Calls.{Call}

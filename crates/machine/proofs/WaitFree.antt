@@ -6,7 +6,8 @@ use Prim.Native.Nat.{ℕ, suc, _+_, _*_, _≤_, _<_}
 use native.Mathlib.Decide.{ℕ-discrete}
 use native.Mathlib.Nat.{mul-add, mul-left-comm, mul-le-mul-left, mul-le-mul-right}
 use native.Mathlib.Omega.{arith}
-use Rattle.machine.specs.Object.{Object, Opens}
+use Rattle.machine.specs.Object.{Object}
+use Rattle.machine.specs.Lawful.{Opens}
 use Rattle.machine.specs.Machine.{Idle, Task, Next, Go, Turn, End, ends, advance}
 use Rattle.machine.specs.Kind.{Kind, Off, kind, off}
 use Rattle.machine.specs.Run.{Config, Served, start, answerOf, begun, serve, run}

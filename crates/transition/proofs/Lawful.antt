@@ -5,7 +5,7 @@ use borrow.Author.Tests.{ltb-true, lt-ltb}
 use Rattle.table.specs.declared.Shape.{Shape}
 use Rattle.table.proofs.Accepted.{accepted-next, response-byte}
 use Rattle.table.proofs.Changing.{reading-keeps}
-use Rattle.machine.specs.Object.{Lawful}
+use Rattle.machine.specs.Lawful.{Lawful}
 use Rattle.transition.specs.Object.{ObjectTable, objectOf}
 
 pub object-lawful : {file : List ℕ} {shape : Shape} → ObjectTable file shape → Lawful (objectOf file shape)
