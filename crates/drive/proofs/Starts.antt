@@ -75,9 +75,9 @@ parts cs ys found = record { cells = startedCells found cs; row = filledTo (idle
 by-parts : (cs : List ℕ) (ys : List Task) (w : Admitted) → parts cs ys (withCells (length cs) (length ys) w) ≡ filled cs ys (withCells (length cs) (length ys) w)
 unfolding imageIn idleRow
 by-parts cs ys (admitted.Refused c) = refl
-by-parts cs ys (admitted.Accepted c shape) = at (eqb (length cs) (length ys + 1)) refl
+by-parts cs ys (admitted.Admits c shape) = at (eqb (length cs) (length ys + 1)) refl
   where
-    at : (b : Bool) → eqb (length cs) (length ys + 1) ≡ b → parts cs ys (withCells (length cs) (length ys) (admitted.Accepted c shape)) ≡ filled cs ys (withCells (length cs) (length ys) (admitted.Accepted c shape))
+    at : (b : Bool) → eqb (length cs) (length ys + 1) ≡ b → parts cs ys (withCells (length cs) (length ys) (admitted.Admits c shape)) ≡ filled cs ys (withCells (length cs) (length ys) (admitted.Admits c shape))
     at false e = rw e refl
     at true e =
         rw (e, eqb-true (length cs) (length ys + 1) e, add-one, drop-length ys, append-nil (idleRow (length ys))) refl
@@ -96,8 +96,8 @@ idle-below (start.Refused c) n = omega arith
 
 few : (k n : ℕ) (checked : Checked) (found : Admitted) → withRow n checked ≡ found → idleCount (withCells k n found .answer) n ≤ 8
 few k n checked (admitted.Refused c) e = omega arith
-few k n checked (admitted.Accepted c shape) e =
-    omega (arith, idle-below (withCells k n (admitted.Accepted c shape) .answer) n, admitted-ranges n c shape checked e .few)
+few k n checked (admitted.Admits c shape) e =
+    omega (arith, idle-below (withCells k n (admitted.Admits c shape) .answer) n, admitted-ranges n c shape checked e .few)
 
 -- The records that a start fills are in the row, and at most eight.
 pub count-fits : (file cs : List ℕ) (ys : List Task) (a : StartAnswer) → a ≡ admitStartOf file (length cs) (length ys) .answer

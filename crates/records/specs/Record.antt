@@ -24,14 +24,14 @@ unfoldable pub namesTask : ℕ → ℕ → Bool
 namesTask n phase = ltb phase 16 || ltb (phase % 8) n
 
 -- In the phases Apply and ReloadApply the payload is an operation below m.
-unfoldable pub payloadInForm : ℕ → Task → Bool
-payloadInForm m t = cond (leb 16 (t .phase) && leb (t .phase) 31) (ltb (t .payload) m) true
+unfoldable pub savedPayloadInForm : ℕ → Task → Bool
+savedPayloadInForm m t = cond (leb 16 (t .phase) && leb (t .phase) 31) (ltb (t .payload) m) true
 
 -- The pending form: the named task, the operation, the priority and the steps in range, and the saved words in form.
 unfoldable pub pendingInForm : Shape → (n ceiling : ℕ) → Task → Bool
 pendingInForm shape n ceiling t =
     namesTask n (t .phase) && ltb (t .operation) (shape .operations) && ltb (t .priority) n && ltb (t .steps) ceiling
-    && payloadInForm (shape .operations) t
+    && savedPayloadInForm (shape .operations) t
     && headInForm (shape .states) n (t .head)
     && announcementInForm (shape .operations) n (t .announcement)
 
@@ -40,9 +40,9 @@ unfoldable pub recordInForm : Shape → (n ceiling : ℕ) → Task → Bool
 recordInForm shape n ceiling t = cond (eqb (t .phase) 0) (idleInForm n t) (pendingInForm shape n ceiling t)
 
 -- The phase of a record, if its number is one and the record is in form; else the record is refused with 11.
-abbrev pub inForm : Bool → PhaseRead → PhaseRead
-inForm fits (Known phase) = cond fits (Known phase) (Refused cause.Record)
-inForm fits (Refused reason) = Refused reason
+abbrev pub readInForm : Bool → PhaseRead → PhaseRead
+readInForm fits (Known phase) = cond fits (Known phase) (Refused cause.Record)
+readInForm fits (Refused reason) = Refused reason
 
 unfoldable pub readRecord : Shape → (n ceiling : ℕ) → Task → PhaseRead
-readRecord shape n ceiling t = inForm (recordInForm shape n ceiling t) (phaseOf (t .phase))
+readRecord shape n ceiling t = readInForm (recordInForm shape n ceiling t) (phaseOf (t .phase))

@@ -5,7 +5,7 @@ use cells::form;
 use refusal::Refusal;
 use table::Shape;
 ghost use mathlib.Core.Path.{_≡_};
-ghost use Rattle.records.specs.Record.{idleTask, idleInForm, namesTask, payloadInForm, pendingInForm, recordInForm, readRecord};
+ghost use Rattle.records.specs.Record.{idleTask, idleInForm, namesTask, savedPayloadInForm, pendingInForm, recordInForm, readRecord};
 
 // Which fields a phase uses, and their forms and ranges, stand in docs/RECORDS.md. Its size is 32 bytes, without gaps.
 #[repr(C)]
@@ -81,7 +81,7 @@ fn names_task(tasks: usize, phase: u32) -> bool
 
 // Whether the payload is an operation, in the phases that apply it.
 fn payload_in_form(operations: u16, own: Task) -> bool
-    ensures { λ r. ⌜ r ≡ payloadInForm operations own ⌝ }
+    ensures { λ r. ⌜ r ≡ savedPayloadInForm operations own ⌝ }
 {
     if own.phase < FIRST_NAMING {
         return true;

@@ -45,8 +45,8 @@ module _ (file cells : List ℕ) (n i : ℕ) (t : Task) where
 
   makes-in : (x : Admitted) → Makes cells (accessIn file n i t x) (stepIn file cells n i t x)
   makes-in (admitted.Refused c) = refusal _ c
-  makes-in (admitted.Accepted c shape) =
-      let a = accessIn file n i t (admitted.Accepted c shape) in
+  makes-in (admitted.Admits c shape) =
+      let a = accessIn file n i t (admitted.Admits c shape) in
       choice (Makes cells a) (eqb (length cells) (n + 1)) _ _
       (choice (Makes cells a) (ltb i n) _ _ (makes-from shape (readRecord shape n c t)) (refusal a cause.Task))
       (refusal a cause.Cells)
@@ -92,7 +92,7 @@ module _ (file cells others : List ℕ) (n i : ℕ) (t : Task) where
 
   agree-in : (x : Admitted) → let a = accessIn file n i t x in givenBack cells a ≡ givenBack others a → Agree (stepIn file cells n i t x) (stepIn file others n i t x)
   agree-in (admitted.Refused c) e = first-refused _ c
-  agree-in (admitted.Accepted c shape) e =
+  agree-in (admitted.Admits c shape) e =
       both-tested (eqb (length cells) (n + 1)) (eqb (length others) (n + 1)) cause.Cells _ _
       (both-tested (ltb i n) (ltb i n) cause.Task _ _ (agree-from shape (readRecord shape n c t) e))
 

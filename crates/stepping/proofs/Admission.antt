@@ -45,14 +45,14 @@ ceiling-ranges n c e = at (leb 1 n) (leb n 8) refl refl
     at false b p q = absurd (refused (simp p at e))
 
 -- A call is admitted only with a row and a ceiling in these ranges.
-pub admitted-ranges : (n c : ℕ) (shape : Shape) (checked : Checked) → withRow n checked ≡ admitted.Accepted c shape → Ranges n c
+pub admitted-ranges : (n c : ℕ) (shape : Shape) (checked : Checked) → withRow n checked ≡ admitted.Admits c shape → Ranges n c
 admitted-ranges n c shape (table.Accepted found) e = at (ceilingOf n) refl e
   where
-    at : (x : Ceiling) → ceilingOf n ≡ x → withCeiling found x ≡ admitted.Accepted c shape → Ranges n c
+    at : (x : Ceiling) → ceilingOf n ≡ x → withCeiling found x ≡ admitted.Admits c shape → Ranges n c
     at (ceiling.Steps d) p q = let r : d ≡ c = cc in ceiling-ranges n c (rw r at p)
     at (ceiling.Refused reason) p q = let z : _≡_ {A = ℕ} 0 1 = cc in absurd (omega arith)
 admitted-ranges n c shape (table.Refused reason) e = let z : _≡_ {A = ℕ} 0 1 = cc in absurd (omega arith)
 
-pub admit-ranges : (file : List ℕ) (n c : ℕ) (shape : Shape) → admitOf file n ≡ admitted.Accepted c shape → Ranges n c
+pub admit-ranges : (file : List ℕ) (n c : ℕ) (shape : Shape) → admitOf file n ≡ admitted.Admits c shape → Ranges n c
 unfolding admitOf
 admit-ranges file n c shape e = admitted-ranges n c shape (layoutOf file) e

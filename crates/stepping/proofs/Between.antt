@@ -49,31 +49,31 @@ step-cause (step.Refused c) r = (c, refl)
 module _ (p : Places) (m : Memory) where
   -- A refused call leaves the cells and the row of the run.
   refused-keeps : (x : LentCall) → IsRefused (serveLent x m .answer) → storeAt p (serveLent x m .memory) ≡ storeAt p m
-  refused-keeps (lent.Start at) r =
+  refused-keeps (lent.LentStart at) r =
       let (c, e) = start-cause _ r in
       let same = refused-start (m .cells (at .cells)) (m .row (at .row)) (m .table (at .table)) c e in
       store-same
       (written-same (m .cells) (at .cells) _ (ap (λ (out : Started). out .cells) same) (p .cells))
       (written-same (m .row) (at .row) _ (ap (λ (out : Started). out .row) same) (p .row))
-  refused-keeps (lent.Begin table row i o) r =
+  refused-keeps (lent.LentBegin table row i o) r =
       let (c, e) = begin-cause _ r in
       store-same refl (written-same (m .row) row _ (refused-begin-row (m .table table) (m .row row) i o c e) (p .row))
-  refused-keeps (lent.Step at i) r =
+  refused-keeps (lent.LentStep at i) r =
       let (c, e) = step-cause _ r in
       let (row, cells) = refused-step-row (m .table (at .table)) (m .row (at .row)) i (m .cells (at .cells)) c e in
       store-same (written-same (m .cells) (at .cells) _ cells (p .cells)) (written-same (m .row) (at .row) _ row (p .row))
 
   -- A call on other memory leaves them too.
   apart-keeps : (x : LentCall) → Apart p x → storeAt p (serveLent x m .memory) ≡ storeAt p m
-  apart-keeps (lent.Start at) (c, r) = store-same (update-other (m .cells) (at .cells) _ (p .cells) c) (update-other (m .row) (at .row) _ (p .row) r)
-  apart-keeps (lent.Begin table row i o) r = store-same refl (update-other (m .row) row _ (p .row) r)
-  apart-keeps (lent.Step at i) (c, r) = store-same (update-other (m .cells) (at .cells) _ (p .cells) c) (update-other (m .row) (at .row) _ (p .row) r)
+  apart-keeps (lent.LentStart at) (c, r) = store-same (update-other (m .cells) (at .cells) _ (p .cells) c) (update-other (m .row) (at .row) _ (p .row) r)
+  apart-keeps (lent.LentBegin table row i o) r = store-same refl (update-other (m .row) row _ (p .row) r)
+  apart-keeps (lent.LentStep at i) (c, r) = store-same (update-other (m .cells) (at .cells) _ (p .cells) c) (update-other (m .row) (at .row) _ (p .row) r)
 
   -- No call writes a table.
   tables-stay : (x : LentCall) → serveLent x m .memory .table ≡ m .table
-  tables-stay (lent.Start at) = refl
-  tables-stay (lent.Begin table row i o) = refl
-  tables-stay (lent.Step at i) = refl
+  tables-stay (lent.LentStart at) = refl
+  tables-stay (lent.LentBegin table row i o) = refl
+  tables-stay (lent.LentStep at i) = refl
 
   -- A call of the run does what it does in the run.
   own-serves : {x : LentCall} {y : Call} → OfRun p x y

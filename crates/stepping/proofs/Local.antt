@@ -53,8 +53,8 @@ module _ (file cells others : List ℕ) (n i : ℕ) (t : Task) (long : length ce
 
   alike-in : (x : Admitted) → let k = touched (accessIn file n i t x) in getD cells k 0 ≡ getD others k 0 → Alike k (stepIn file cells n i t x) (stepIn file others n i t x)
   alike-in (admitted.Refused c) e = refusals 0 c e
-  alike-in (admitted.Accepted c shape) e =
-      let k = touched (accessIn file n i t (admitted.Accepted c shape)) in
+  alike-in (admitted.Admits c shape) e =
+      let k = touched (accessIn file n i t (admitted.Admits c shape)) in
       rw long
       (choice (eqb (length others) (n + 1)) _ _ _ _
       (choice (ltb i n) _ _ _ _ (alike-from shape (readRecord shape n c t) e) (refusals k cause.Task e))
@@ -94,8 +94,8 @@ module _ (file cells : List ℕ) (n i : ℕ) (t : Task) where
 
   kept-in : (x : Admitted) → Elsewhere cells (touched (accessIn file n i t x)) (stepIn file cells n i t x)
   kept-in (admitted.Refused c) = refusal 0 c
-  kept-in (admitted.Accepted c shape) =
-      let k = touched (accessIn file n i t (admitted.Accepted c shape)) in
+  kept-in (admitted.Admits c shape) =
+      let k = touched (accessIn file n i t (admitted.Admits c shape)) in
       either (eqb (length cells) (n + 1)) _ _
       (either (ltb i n) _ _ (kept-from shape (readRecord shape n c t)) (refusal k cause.Task))
       (refusal k cause.Cells)

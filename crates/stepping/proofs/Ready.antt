@@ -15,13 +15,13 @@ use Rattle.records.specs.declared.phase.Phase.the-variants.{Idle, ReadOnly, Ann
 use Rattle.records.specs.declared.phase.PhaseRead.{PhaseRead}
 use Rattle.records.specs.declared.phase.PhaseRead.the-variants.{Known, Refused}
 use Rattle.records.specs.Phase.{phaseOf}
-use Rattle.records.specs.Record.{idleInForm, namesTask, payloadInForm, pendingInForm, recordInForm, inForm, readRecord}
+use Rattle.records.specs.Record.{idleInForm, namesTask, savedPayloadInForm, pendingInForm, recordInForm, readInForm, readRecord}
 use Rattle.transition.specs.Transition.{planOf}
 use Rattle.stepping.specs.Step.{touched}
 use Rattle.records.proofs.Phases.{WorksBelow, works}
 
 -- A record is read as a phase only if it is in form and its number is that phase's.
-parts : (fits : Bool) (read : PhaseRead) (f : Phase) → inForm fits read ≡ Known f → (fits ≡ true) × (read ≡ Known f)
+parts : (fits : Bool) (read : PhaseRead) (f : Phase) → readInForm fits read ≡ Known f → (fits ≡ true) × (read ≡ Known f)
 parts true (Known g) f e = (refl, e)
 parts false (Known g) f e = absurd (let z : _≡_ {A = ℕ} 0 1 = cc in omega arith)
 parts fits (Refused reason) f e = absurd (let z : _≡_ {A = ℕ} 0 1 = cc in omega arith)
@@ -57,9 +57,9 @@ module _ (shape : Shape) (n c : ℕ) (t : Task) where
       let b = a && ltb (t .operation) (shape .operations) in
       let d = b && ltb (t .priority) n in
       let f = d && ltb (t .steps) c in
-      let g = f && payloadInForm (shape .operations) t in
+      let g = f && savedPayloadInForm (shape .operations) t in
       let h = g && headInForm (shape .states) n (t .head) in
-      let counted : f ≡ true = and-left f (payloadInForm (shape .operations) t) (and-left g (headInForm (shape .states) n (t .head)) (and-left h (announcementInForm (shape .operations) n (t .announcement)) e)) in
+      let counted : f ≡ true = and-left f (savedPayloadInForm (shape .operations) t) (and-left g (headInForm (shape .states) n (t .head)) (and-left h (announcementInForm (shape .operations) n (t .announcement)) e)) in
       let placed : d ≡ true = and-left d (ltb (t .steps) c) counted in
       let few : t .steps < c = ltb-true (t .steps) c (and-right d (ltb (t .steps) c) counted) in
       record { priority = ltb-true (t .priority) n (and-right b (ltb (t .priority) n) placed); steps = omega (arith, few); names = and-left a (ltb (t .operation) (shape .operations)) (and-left b (ltb (t .priority) n) placed) }

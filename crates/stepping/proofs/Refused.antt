@@ -46,7 +46,7 @@ module _ (cells : List ℕ) (row : List Task) where
 
   start-kept : (x : Admitted) → StartKept (filled cells row (withCells (length cells) (length row) x))
   start-kept (admitted.Refused c) = start-refused c
-  start-kept (admitted.Accepted c shape) =
+  start-kept (admitted.Admits c shape) =
       choice (λ found. StartKept (filled cells row found)) (eqb (length cells) (length row + 1)) _ _ (record { same = λ reason e. absurd (let z : _≡_ {A = ℕ} 0 1 = cc in omega arith) }) (start-refused cause.Cells)
 
   pub refused-start : (file : List ℕ) (reason : Refusal) → startOf file cells row .answer ≡ start.Refused reason → startOf file cells row ≡ refuseStart cells row reason
@@ -70,7 +70,7 @@ module _ (t : Task) where
 
     begin-kept : (x : Admitted) → BeginKept (beginIn file n i o t x)
     begin-kept (admitted.Refused c) = begin-refused c
-    begin-kept (admitted.Accepted c shape) =
+    begin-kept (admitted.Admits c shape) =
         choice BeginKept (ltb i n) _ _
         (choice BeginKept (ltb o (shape .operations)) _ _
         (choice BeginKept (operationInRange file shape o) _ _ (begin-from shape (readRecord shape n c t)) (begin-refused cause.Entry))
@@ -110,7 +110,7 @@ module _ (file cells : List ℕ) (n i : ℕ) (t : Task) where
 
   step-kept : (x : Admitted) → StepKept (stepIn file cells n i t x)
   step-kept (admitted.Refused c) = step-refused c
-  step-kept (admitted.Accepted c shape) =
+  step-kept (admitted.Admits c shape) =
       choice StepKept (eqb (length cells) (n + 1)) _ _
       (choice StepKept (ltb i n) _ _ (step-from shape (readRecord shape n c t)) (step-refused cause.Task))
       (step-refused cause.Cells)

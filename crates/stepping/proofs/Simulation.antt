@@ -66,7 +66,7 @@ module _ (file : List ℕ) (shape : Shape) (table : ObjectTable file shape) (n :
   object = objectOf file shape
 
   -- The tests that all calls share are passed.
-  admits : admitOf file n ≡ admitted.Accepted (ceiling n) shape
+  admits : admitOf file n ≡ admitted.Admits (ceiling n) shape
   unfolding admitOf
   admits = rw (accepted-parts file shape (table .accepted) .0, ceiling-cubed n some most)
 

@@ -30,7 +30,7 @@ accessFrom file shape i t (record-phase.Known f) = planOf file shape i (t .prior
 
 abbrev pub accessIn : List ℕ → (n i : ℕ) → Task → Admitted → Access
 accessIn file n i t (admitted.Refused c) = Read 0
-accessIn file n i t (admitted.Accepted c shape) = accessFrom file shape i t (readRecord shape n c t)
+accessIn file n i t (admitted.Admits c shape) = accessFrom file shape i t (readRecord shape n c t)
 
 unfoldable pub accessOf : List ℕ → (n i : ℕ) → Task → Access
 accessOf file n i t = accessIn file n i t (admitOf file n)

@@ -61,7 +61,7 @@ stepSaid (step.Refused c) = paper.Refused (numberOf c)
 
 -- Causes 1 to 3, tested on a file, then cause 5 for n records: the table's shape with the ceiling, or the first cause.
 abbrev pub withCeiling : Shape → Ceiling → Admitted
-withCeiling shape (ceiling.Steps c) = admitted.Accepted c shape
+withCeiling shape (ceiling.Steps c) = admitted.Admits c shape
 withCeiling shape (ceiling.Refused reason) = admitted.Refused reason
 
 abbrev pub withRow : ℕ → Checked → Admitted
@@ -93,7 +93,7 @@ notGranted c = record { granted = false; state = 0; answer = start.Refused c }
 
 abbrev pub withCells : (k n : ℕ) → Admitted → Start
 withCells k n (admitted.Refused c) = notGranted c
-withCells k n (admitted.Accepted c shape) =
+withCells k n (admitted.Admits c shape) =
     cond (eqb k (n + 1)) (record { granted = true; state = shape .start; answer = start.Started }) (notGranted cause.Cells)
 
 unfoldable pub admitStartOf : List ℕ → (k n : ℕ) → Start
@@ -134,7 +134,7 @@ beginFrom file shape o t (record-phase.Known f) =
 
 abbrev pub beginIn : List ℕ → (n i o : ℕ) → Task → Admitted → Begin
 beginIn file n i o t (admitted.Refused c) = refuseBegin t c
-beginIn file n i o t (admitted.Accepted c shape) =
+beginIn file n i o t (admitted.Admits c shape) =
     cond (ltb i n)
     (cond (ltb o (shape .operations))
     (cond (operationInRange file shape o) (beginFrom file shape o t (readRecord shape n c t)) (refuseBegin t cause.Entry))
@@ -180,7 +180,7 @@ stepFrom file shape cells n i t (record-phase.Known f) =
 
 abbrev pub stepIn : List ℕ → List ℕ → (n i : ℕ) → Task → Admitted → Stepped
 stepIn file cells n i t (admitted.Refused c) = refuseStep cells t c
-stepIn file cells n i t (admitted.Accepted c shape) =
+stepIn file cells n i t (admitted.Admits c shape) =
     cond (eqb (length cells) (n + 1))
     (cond (ltb i n) (stepFrom file shape cells n i t (readRecord shape n c t)) (refuseStep cells t cause.Task))
     (refuseStep cells t cause.Cells)

@@ -10,12 +10,9 @@ use Rattle.cells.specs.Form.{headInForm}
 use Rattle.cells.specs.Image.{image}
 use Rattle.cells.specs.Layout.{headWord}
 use Rattle.cells.specs.declared.head.Head.the-variants.{Held}
-use Rattle.table.specs.Cases.{Case, flag}
+use Rattle.table.specs.Cases.{Case, case, flag}
 use Rattle.table.specs.Cases as file
 use Rattle.stepping.specs.Call.{startOf, startSaid, idleRow}
-
-abbrev case : ℕ → ℕ → Case
-case given said = record { given = given; said = said }
 
 -- The number that start answers for the flag object with this many records, and one cell more.
 abbrev started : ℕ → ℕ
@@ -49,4 +46,4 @@ callCases =
 
 -- All marked cases.
 unfoldable pub cases : List Case
-cases = file.cases ++ callCases
+cases = file.fileCases ++ callCases

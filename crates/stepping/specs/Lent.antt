@@ -38,9 +38,9 @@ storeAt p m = record { cells = m .cells (p .cells); row = m .row (p .row) }
 -- ---- A call with the places that it is lent
 
 pub data LentCall : Type 0 where
-  Start : (at : Places) → LentCall
-  Begin : (table row task operation : ℕ) → LentCall
-  Step : (at : Places) (task : ℕ) → LentCall
+  LentStart : (at : Places) → LentCall
+  LentBegin : (table row task operation : ℕ) → LentCall
+  LentStep : (at : Places) (task : ℕ) → LentCall
 
 -- A start opens a run or is refused with a number; begin and step say what they say in a run.
 pub data LentAnswer : Type 0 where
@@ -58,16 +58,16 @@ pub record Lent : Type 0 where
   pub answer : LentAnswer
 
 abbrev pub serveLent : LentCall → Memory → Lent
-serveLent (Start at) m =
+serveLent (LentStart at) m =
     let out = startOf (m .table (at .table)) (m .cells (at .cells)) (m .row (at .row)) in
     record {
       memory = record { table = m .table; cells = update (m .cells) (at .cells) (out .cells); row = update (m .row) (at .row) (out .row) };
       answer = startAnswered (out .answer);
     }
-serveLent (Begin table row i o) m =
+serveLent (LentBegin table row i o) m =
     let out = beginOf (m .table table) (m .row row) i o in
     record { memory = record { table = m .table; cells = m .cells; row = update (m .row) row (out .row) }; answer = Says (beginSaid (out .answer)) }
-serveLent (Step at i) m =
+serveLent (LentStep at i) m =
     let out = stepOf (m .table (at .table)) (m .cells (at .cells)) (m .row (at .row)) i in
     record {
       memory = record { table = m .table; cells = update (m .cells) (at .cells) (out .cells); row = update (m .row) (at .row) (out .row) };
@@ -78,8 +78,8 @@ serveLent (Step at i) m =
 
 -- A call of the run at these places: it is lent the run's table, cells and row.
 pub data OfRun (p : Places) : LentCall → Call → Type 0 where
-  begin : {i o : ℕ} → OfRun p (Begin (p .table) (p .row) i o) (run.Begin i o)
-  step : {i : ℕ} → OfRun p (Step p i) (run.Step i)
+  begin : {i o : ℕ} → OfRun p (LentBegin (p .table) (p .row) i o) (run.Begin i o)
+  step : {i : ℕ} → OfRun p (LentStep p i) (run.Step i)
 
 -- A refused call.
 abbrev pub IsRefused : LentAnswer → Type 0
@@ -92,9 +92,9 @@ IsRefused (Says (run.Refused k)) = Unit {0}
 
 -- A call on other memory: it is lent neither the run's cells nor its row.
 abbrev pub Apart : Places → LentCall → Type 0
-Apart p (Start at) = (at .cells ≢ p .cells) × (at .row ≢ p .row)
-Apart p (Begin table row i o) = row ≢ p .row
-Apart p (Step at i) = (at .cells ≢ p .cells) × (at .row ≢ p .row)
+Apart p (LentStart at) = (at .cells ≢ p .cells) × (at .row ≢ p .row)
+Apart p (LentBegin table row i o) = row ≢ p .row
+Apart p (LentStep at i) = (at .cells ≢ p .cells) × (at .row ≢ p .row)
 
 -- A list of calls from one memory to another, with those of the run at these places and their answers: each call is one of the
 -- run, or refused, or on other memory.
@@ -121,5 +121,5 @@ Between p = (m m′ : Memory) (xs : List LentCall) (es : List Event) → Around 
 -- An accepted start, on whatever memory, opens the next run at its places.
 abbrev pub OpensNext : Places → Type 0
 OpensNext p =
-    (m : Memory) → Bytes (m .table (p .table)) → serveLent (Start p) m .answer ≡ Opened
-    → Opening (m .table (p .table)) (length (m .row (p .row))) (shapeOf (m .table (p .table)) .start) (storeAt p (serveLent (Start p) m .memory))
+    (m : Memory) → Bytes (m .table (p .table)) → serveLent (LentStart p) m .answer ≡ Opened
+    → Opening (m .table (p .table)) (length (m .row (p .row))) (shapeOf (m .table (p .table)) .start) (storeAt p (serveLent (LentStart p) m .memory))

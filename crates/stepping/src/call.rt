@@ -26,7 +26,7 @@ ghost use Rattle.stepping.specs.Call.{withRow, admitOf, notGranted, admi
 
 // What the tests that all calls share find: the table's shape and the ceiling of own steps, or the first cause.
 pub enum Admitted {
-    Accepted { ceiling: u32, shape: Shape },
+    Admits { ceiling: u32, shape: Shape },
     Refused(Refusal),
 }
 
@@ -76,7 +76,7 @@ fn with_row(tasks: usize, checked: Checked) -> Admitted
             let found = ceiling::ceiling_for(tasks);
             match found {
                 Ceiling::Refused(cause) => Admitted::Refused(cause),
-                Ceiling::Steps(ceiling) => Admitted::Accepted { ceiling, shape },
+                Ceiling::Steps(ceiling) => Admitted::Admits { ceiling, shape },
             }
         }
     }
@@ -108,7 +108,7 @@ pub fn admit_start(file: &[u8], cells: usize, tasks: usize) -> Start
     let admitted = with_row(tasks, table::check(file));
     match admitted {
         Admitted::Refused(cause) => refuse_start(cause),
-        Admitted::Accepted { ceiling: _, shape } => {
+        Admitted::Admits { ceiling: _, shape } => {
             if cells != tasks + 1 {
                 return refuse_start(Refusal::Cells);
             }
@@ -179,7 +179,7 @@ fn begin_in(
     operation: usize,
     own: Task,
 ) -> Begin
-    ensures { λ r. ⌜ r ≡ beginIn (now (file .entry)) tasks task operation own (Admitted.Accepted ceiling shape) ⌝ }
+    ensures { λ r. ⌜ r ≡ beginIn (now (file .entry)) tasks task operation own (Admitted.Admits ceiling shape) ⌝ }
 {
     if task >= tasks {
         return refuse_begin(own, Refusal::Task);
@@ -205,7 +205,7 @@ pub fn begin_task(file: &[u8], tasks: usize, task: usize, operation: usize, own:
     let admitted = admit(file, tasks);
     match admitted {
         Admitted::Refused(cause) => refuse_begin(own, cause),
-        Admitted::Accepted { ceiling, shape } => {
+        Admitted::Admits { ceiling, shape } => {
             begin_in(file, shape, ceiling, tasks, task, operation, own)
         }
     }
@@ -265,7 +265,7 @@ fn step_in(
     own: Task,
 ) -> Step
     requires { ⌜ (0 < tasks) × (tasks ≤ 8) × (ceiling ≤ 512000) ⌝ }
-    ensures { λ r. ⌜ record { cells = now (cells .exit); task = r .task; answer = r .answer } ≡ stepIn (now (file .entry)) (now (cells .entry)) tasks task own (Admitted.Accepted ceiling shape) ⌝ }
+    ensures { λ r. ⌜ record { cells = now (cells .exit); task = r .task; answer = r .answer } ≡ stepIn (now (file .entry)) (now (cells .entry)) tasks task own (Admitted.Admits ceiling shape) ⌝ }
 {
     if cells.len() != tasks + 1 {
         return refuse_step(own, Refusal::Cells);
@@ -287,7 +287,7 @@ pub fn step_task(file: &[u8], cells: &mut [u64], tasks: usize, task: usize, own:
     let admitted = admit(file, tasks);
     match admitted {
         Admitted::Refused(cause) => refuse_step(own, cause),
-        Admitted::Accepted { ceiling, shape } => {
+        Admitted::Admits { ceiling, shape } => {
             step_in(file, cells, shape, ceiling, tasks, task, own)
         }
     }

@@ -22,8 +22,8 @@ unfoldable pub flag : List ℕ
 flag = flagEntries ++ flagTrailer
 
 -- A file of so many states and operations in which every entry is 0.
-unfoldable pub blank : ℕ → ℕ → List ℕ
-blank states operations =
+unfoldable pub zeroTable : ℕ → ℕ → List ℕ
+zeroTable states operations =
     replicate (2 * states * operations) 0 ++ set (set (set flagTrailer 4 (states % 256)) 5 (states / 256)) 6 operations
 
 -- The number that check answers.
@@ -42,16 +42,16 @@ pub record Case : Type 0 where
 unfoldable pub case : ℕ → ℕ → Case
 case given said = record { given = given; said = said }
 
-unfoldable pub cases : List Case
-cases =
+unfoldable pub fileCases : List Case
+fileCases =
     -- A file of 15 bytes.
     case (number (drop 13 flag)) 1
     -- 256 states pass, 257 do not.
-    ∷ case (number (blank 256 1)) 0
-    ∷ case (number (blank 257 1)) 2
+    ∷ case (number (zeroTable 256 1)) 0
+    ∷ case (number (zeroTable 257 1)) 2
     -- 32 operations pass, 33 do not.
-    ∷ case (number (blank 1 32)) 0
-    ∷ case (number (blank 1 33)) 2
+    ∷ case (number (zeroTable 1 32)) 0
+    ∷ case (number (zeroTable 1 33)) 2
     -- The flag file with offset 1.
     ∷ case (number (set flag 12 1)) 3
     -- Next state 1 passes with 2 states, next state 2 does not.

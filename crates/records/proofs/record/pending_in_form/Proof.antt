@@ -3,7 +3,7 @@ use mathlib.Core.Path.{_≡_, sym, _∙_}
 use mathlib.Core.Bool.{true}
 use borrow.Author.Tests.{le-ltb, lt-ltb, not-false, not-true}
 use Rattle.cells.specs.Form.{headInForm}
-use Rattle.records.specs.Record.{namesTask, payloadInForm, pendingInForm}
+use Rattle.records.specs.Record.{namesTask, savedPayloadInForm, pendingInForm}
 use borrow.Author.Needs.{needs}
 use Rattle.records.proofs.record.pending_in_form.Statement.{statement}
 use Rattle.records.proofs.record.pending_in_form.Tie as tie
@@ -12,7 +12,7 @@ use Rattle.records.proofs.record.pending_in_form.Tie as tie
 named : (c : tie.Else1) → let a = c .before .before .args in namesTask (a .tasks) (a .own .phase) ≡ true
 named c = sym (c .before .names-task .ensures) ∙ not-false (c .before .names-task .result) (c .if1 .left)
 
-paid : (c : tie.Else5) → let a = c .before .before .before .before .before .before .before .before .before .before .before .args in payloadInForm (a .shape .operations) (a .own) ≡ true
+paid : (c : tie.Else5) → let a = c .before .before .before .before .before .before .before .before .before .before .before .args in savedPayloadInForm (a .shape .operations) (a .own) ≡ true
 paid c = sym (c .before .payload-in-form .ensures) ∙ not-false (c .before .payload-in-form .result) (c .if5 .left)
 
 headed : (c : tie.Else6) → let a = c .before .before .before .before .before .before .before .before .before .before .before .before .before .before .args in headInForm (a .shape .states) (a .tasks) (a .own .head) ≡ true
