@@ -1,8 +1,7 @@
 -- The abstract machine meets the demand, for every number of tasks and every good start state.
 use mathlib.Core.Path.{_≡_, refl, sym, _∙_, ap}
-use mathlib.Core.Bool.{true}
 use mathlib.Core.List.{List, [], _∷_, _++_}
-use Prim.Native.Nat.{ℕ, _*_, _≤_, _<_}
+use Prim.Native.Nat.{ℕ, _≤_, _<_}
 use native.Mathlib.Nat.{zero-add}
 use native.Mathlib.Omega.{arith}
 use lib.ListN.{length}
@@ -22,7 +21,7 @@ use Rattle.machine.proofs.Rest.{rest-image}
 use Rattle.machine.proofs.OwnSteps.{own-record, next-step}
 use Rattle.machine.proofs.Pending.{pending-is}
 use Rattle.machine.proofs.Update.{clash}
-use Rattle.machine.proofs.WaitFree.{bound-ceiling, pending-steps}
+use Rattle.machine.proofs.WaitFree.{pending-steps}
 use Rattle.machine.specs.Keeping.{bookOf}
 
 -- What a run of the machine shows.
@@ -61,7 +60,3 @@ module _ (b : Object) (n q : ℕ) (good : Opens b q) where
     below = below ceiling h;
     count = λ xs t o s r k e. next-step b n q good xs t o s e .count r k;
   }
-
-  -- Document 01's ceiling.
-  pub demand-ceiling : 1 ≤ n → Demand b n q (1000 * (n * n * n)) image (machineShows b n q)
-  demand-ceiling h = demand (1000 * (n * n * n)) (bound-ceiling n h)
