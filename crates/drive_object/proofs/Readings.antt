@@ -1,6 +1,8 @@
 -- A kernel reads from a word what the answer says.
 use mathlib.Core.Path.{_≡_, refl}
-use Prim.Native.Nat.{ℕ, _/_, _%_, _<_}
+use mathlib.Core.Logic.{_⊎_, inl, inr}
+use mathlib.Core.List.{List}
+use Prim.Native.Nat.{ℕ, _/_, _%_, _<_, _≤_}
 use native.Mathlib.Omega.{arith}
 use Rattle.refusal.specs.Number.{numberOf}
 use Rattle.refusal.specs.declared.Refusal.{Refusal}
@@ -13,7 +15,11 @@ use Rattle.table.specs.declared.Shape.{Shape}
 use Rattle.table.specs.declared.Checked.{Checked}
 use Rattle.table.specs.declared.Checked.the-variants as table
 use Rattle.machine.specs.Calls as paper
+use Rattle.machine.specs.Calls.{Call}
 use Rattle.stepping.specs.Call.{startSaid}
+use Rattle.stepping.specs.Runs.{Store}
+use Rattle.stepping.specs.Opening.{Opening, shown}
+use Rattle.stepping.proofs.Theorem.{refusals-known}
 use Rattle.stepping.specs.declared.call.StartAnswer.{StartAnswer}
 use Rattle.stepping.specs.declared.call.StartAnswer.the-variants as start
 use Rattle.drive_object.specs.Word.{wordOf, refusalIn, endedIn, lowIn, highIn, valueAt, refusedWord, checkWord, startWord, answerWord, ceilingWord}
@@ -79,3 +85,17 @@ pub answer-refused-read : (number : ℕ) → number < 256 → (refusalIn (answer
 answer-refused-read number h =
     let parts = parts-read number 0 0 0 h (omega arith) (omega arith) in
     (parts .0, parts .1)
+
+-- In a run byte 0 of a begin or a step is 0, 7, 8, 9 or 10.
+pub run-read : {file : List ℕ} {n q : ℕ} {s : Store} (o : Opening file n q s) (xs : List Call) (x : Call)
+    → let k = refusalIn (answerWord (shown o .answer xs x)) in (k ≡ 0) ⊎ ((7 ≤ k) × (k ≤ 10))
+run-read o xs x = by (shown o .answer xs x) (refusals-known o xs x)
+  where
+    by : (a : paper.Answer) → ((k : ℕ) → a ≡ paper.Refused k → (7 ≤ k) × (k ≤ 10)) → let k = refusalIn (answerWord a) in (k ≡ 0) ⊎ ((7 ≤ k) × (k ≤ 10))
+    by paper.Begun h = inl refl
+    by paper.Running h = inl refl
+    by (paper.Ended r k) h = inl (omega arith)
+    by (paper.Refused k) h =
+        let (low, high) = h k refl in
+        let shows = answer-refused-read k (omega arith) .0 in
+        inr (omega (arith, low, shows), omega (arith, high, shows))
