@@ -1,3 +1,5 @@
 pub mod Runs
 pub mod Held
 pub mod Feeds
+pub mod Ends
+pub mod Outputs
