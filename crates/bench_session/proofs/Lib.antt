@@ -3,3 +3,8 @@ pub mod Held
 pub mod Feeds
 pub mod Ends
 pub mod Outputs
+pub mod Openings
+pub mod Situations
+pub mod Started
+pub mod Consistency
+pub mod Theorem
