@@ -4,13 +4,16 @@
  * docs/LINKING.md is the page about linking.
  *
  * What the caller owes, at every call:
- *  - Lent memory is valid for the whole call, to its given length: `file` to be read, `cells` and `row` to be read and
- *    written. Cells and row are aligned to 8 bytes and hold values. With length 0 the pointer may have any value.
- *  - File, cells and row do not overlap, and nobody else writes them during the call.
+ *  - Lent memory is valid for the whole call, to its given length: `file` to be read, `cells`, `row` and the one record
+ *    `own` to be read and written. Cells, row and record are aligned to 8 bytes and hold values. With length 0 a
+ *    pointer may have any value; the one to a record is always valid.
+ *  - File, cells, row and record do not overlap, and nobody else writes them during the call.
  *  - Begin and step are called with switching closed: one call ends before the next one starts.
  * Within a run (an accepted start and the begins and steps after it) nothing but the calls writes cells, row or
- * table, and every call is lent the same ones. Nothing is asked of task, operation or any length: a call that can't
- * be served is refused. A call keeps no pointer and allocates nothing; start calls memset, and no call anything else.
+ * table, and every call is lent the same ones. A kernel may instead keep each record with its task: it takes them out
+ * of the row after start, and makes every call for a task with the task's record and the row's number of records.
+ * Nothing is asked of task, operation or any length: a call that can't be served is refused. A call keeps no pointer
+ * and allocates nothing; start calls memset, and no call anything else.
  *
  * Every call answers with one word, which the drive_answer functions below read. Byte 0, the lowest, is 0 if the call
  * is accepted, else the number of the first cause that holds; then every other byte is 0 and everything lent is left
@@ -94,6 +97,20 @@ uint64_t drive_begin(const uint8_t *file, size_t file_length, drive_task *row, s
  */
 uint64_t drive_step(const uint8_t *file, size_t file_length, uint64_t *cells, size_t cell_count, drive_task *row,
                     size_t task_count, size_t task);
+
+/*
+ * Begins an operation for a task whose record is lent: drive_begin for a row of task_count records that has it at the
+ * task's place. The tests are the same. Writes the record.
+ */
+uint64_t drive_begin_record(const uint8_t *file, size_t file_length, size_t task_count, size_t task, size_t operation,
+                            drive_task *own);
+
+/*
+ * Makes one step for a task whose record is lent: drive_step for a row of task_count records that has it at the task's
+ * place. The tests and the answer are the same. Writes the record and at most the one touched cell.
+ */
+uint64_t drive_step_record(const uint8_t *file, size_t file_length, uint64_t *cells, size_t cell_count,
+                           size_t task_count, size_t task, drive_task *own);
 
 /*
  * The ceiling of own steps of an operation, whatever the other tasks do. Tests 5 on the number of tasks.

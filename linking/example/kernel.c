@@ -19,6 +19,9 @@ enum { READ, SET, CLEAR };
 /* The task that is stopped in its last operation, as soon as it has its mark in the head. */
 enum { STOPPED = 1 };
 
+/* The task whose record is kept apart from the row, as a kernel may do with each. */
+enum { APART = 2 };
+
 /* The operations of each task, in order. Only the task that is stopped sets the flag. */
 static const struct {
     size_t count;
@@ -35,6 +38,7 @@ struct kernel {
     size_t file_length;
     uint64_t cells[TASKS + 1];
     drive_task row[TASKS];
+    drive_task apart;
     uint32_t ceiling;
     size_t ended[TASKS];
     uint32_t own_steps[TASKS];
@@ -74,6 +78,7 @@ static void start(struct kernel *kernel) {
     kernel->ceiling = drive_answer_ceiling(ceiling);
     expect_accepted(
         drive_start(kernel->file, kernel->file_length, kernel->cells, TASKS + 1, kernel->row, TASKS), "start");
+    kernel->apart = kernel->row[APART];
     printf("%d tasks, %u states, %u operations, ceiling %" PRIu32 "\n", TASKS, (unsigned)drive_answer_states(checked),
            (unsigned)drive_answer_operations(checked), kernel->ceiling);
 }
@@ -98,16 +103,30 @@ static void note_stop(struct kernel *kernel, size_t task, size_t operation) {
            kernel->own_steps[task], kernel->cells[0]);
 }
 
+static uint64_t begin(struct kernel *kernel, size_t task, size_t operation) {
+    if (task == APART) {
+        return drive_begin_record(kernel->file, kernel->file_length, TASKS, task, operation, &kernel->apart);
+    }
+    return drive_begin(kernel->file, kernel->file_length, kernel->row, TASKS, task, operation);
+}
+
+static uint64_t step(struct kernel *kernel, size_t task) {
+    if (task == APART) {
+        return drive_step_record(kernel->file, kernel->file_length, kernel->cells, TASKS + 1, TASKS, task,
+                                 &kernel->apart);
+    }
+    return drive_step(kernel->file, kernel->file_length, kernel->cells, TASKS + 1, kernel->row, TASKS, task);
+}
+
 /* Begins the task's next operation if it is idle, and makes one step. A real kernel closes switching around both. */
 static void turn_of(struct kernel *kernel, size_t task) {
     size_t operation = programs[task].operations[kernel->ended[task]];
     if (!kernel->pending[task]) {
-        expect_accepted(drive_begin(kernel->file, kernel->file_length, kernel->row, TASKS, task, operation), "begin");
+        expect_accepted(begin(kernel, task, operation), "begin");
         kernel->pending[task] = true;
         kernel->own_steps[task] = 0;
     }
-    uint64_t answer =
-        drive_step(kernel->file, kernel->file_length, kernel->cells, TASKS + 1, kernel->row, TASKS, task);
+    uint64_t answer = step(kernel, task);
     expect_accepted(answer, "step");
     kernel->own_steps[task] += 1;
     expect(kernel->own_steps[task] <= kernel->ceiling, "an operation passes the ceiling");

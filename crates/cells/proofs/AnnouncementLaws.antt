@@ -1,5 +1,5 @@
 -- Laws of the announcement: decode after encode and back, injectivity, forms.
-use mathlib.Core.Path.{_≡_, refl}
+use mathlib.Core.Path.{_≡_, refl, ap}
 use mathlib.Core.Bool.{Bool, true, false, _&&_}
 use mathlib.Core.List.{[], _∷_}
 use Prim.Native.Nat.{ℕ, _/_, _%_, _^_, _<_}
@@ -8,10 +8,11 @@ use lib.Dec.{eqb, ltb}
 use lib.ListN.{getD}
 use Rattle.cells.specs.Field.{unpack, Fit}
 use Rattle.cells.specs.Form.{payloadInForm, announcementFieldsInForm, announcementInForm, announcementInRange}
-use Rattle.cells.specs.Layout.{marksWidth, kindWidth, gapWidth, payloadWidth, marks, value, announcementWidths, announcementValues, announcementAt, announcementFrom, announcementWord, announcementOf}
-use Rattle.cells.specs.MarkLaws.{SetsBit}
+use Rattle.cells.specs.Layout.{marksWidth, kindWidth, gapWidth, payloadWidth, marks, value, announcementWidths, announcementValues, announcementAt, announcementFrom, announcementWord, announcementOf, kindIn}
+use Rattle.cells.proofs.MarkLaws.{SetsBit}
 use Rattle.cells.specs.declared.announcement.Announcement.{Announcement}
 use Rattle.cells.specs.declared.announcement.Announcement.the-variants.{Empty, Operation, Response}
+use Rattle.cells.proofs.Fields.{unpack-pack}
 use Rattle.cells.proofs.Codec.{Codec, content-read, marks-read, word-injective}
 use Rattle.cells.proofs.Forms.{Formed, formed, form-of, Shape, written-form, form-whole, form-range, form-set}
 use Rattle.cells.proofs.Tests.{and-left, and-right}
@@ -68,6 +69,10 @@ module _ (x : Announcement) (m : ℕ) (f : Fit announcementWidths (announcementV
   pub announcement-decode : announcementOf (announcementWord x m) ≡ x
   unfolding announcementOf announcementWord
   announcement-decode = content-read announcement-codec announcementWidths x m f
+
+  pub announcement-kind : kindIn (announcementWord x m) ≡ getD (announcementValues x m) 1 0
+  unfolding announcementWord
+  announcement-kind = ap (λ vs. getD vs 1 0) (unpack-pack announcementWidths (announcementValues x m) f)
 
   pub announcement-marks : marks (announcementWord x m) ≡ m
   unfolding announcementWord unpack

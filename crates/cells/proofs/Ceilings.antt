@@ -6,7 +6,7 @@ use native.Mathlib.Omega.{arith}
 use borrow.Author.Tests.{eqb-true, leb-true, le-leb}
 use lib.Dec.{eqb, leb}
 use lib.ListN.{getD}
-use Rattle.cells.specs.Ceiling.{ceilings, ceilingOf, ceilingNumber}
+use Rattle.cells.specs.Ceiling.{ceilings, ceilingOf, ceilingSaid}
 use Rattle.cells.specs.declared.ceiling.Ceiling.the-variants.{Steps}
 use Rattle.cells.proofs.Tests.{and-left, and-right, holds-at}
 
@@ -22,10 +22,10 @@ ceiling-cubed n h l =
     simp (le-leb 1 n h, le-leb n 8 l, r)
 
 -- Any other number of tasks is refused with 5.
-pub ceiling-refused : (n : ℕ) → (1 ≤ n → n ≤ 8 → ⊥) → ceilingNumber (ceilingOf n) ≡ 5
+pub ceiling-refused : (n : ℕ) → (1 ≤ n → n ≤ 8 → ⊥) → ceilingSaid (ceilingOf n) .number ≡ 5
 unfolding ceilingOf
 ceiling-refused n out = at (leb 1 n && leb n 8) refl
   where
-    at : (b : Bool) → leb 1 n && leb n 8 ≡ b → ceilingNumber (ceilingOf n) ≡ 5
+    at : (b : Bool) → leb 1 n && leb n 8 ≡ b → ceilingSaid (ceilingOf n) .number ≡ 5
     at true e = absurd (out (leb-true 1 n (and-left (leb 1 n) (leb n 8) e)) (leb-true n 8 (and-right (leb 1 n) (leb n 8) e)))
     at false e = rw e

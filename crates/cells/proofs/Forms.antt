@@ -10,7 +10,7 @@ use lib.ListN.{getD}
 use Rattle.cells.specs.Field.{pack, unpack, total, Fit}
 use Rattle.cells.specs.Form.{marksInForm, inForm}
 use Rattle.cells.specs.Layout.{marksWidth, marks}
-use Rattle.cells.specs.MarkLaws.{SetsBit, set-high, set-low, set-below}
+use Rattle.cells.proofs.MarkLaws.{SetsBit, set-high, set-low, set-below}
 use Rattle.cells.proofs.Codec.{Codec}
 use Rattle.cells.proofs.Fields.{unpack-low, unpack-pack, pack-unpack, pack-below}
 use Rattle.cells.proofs.Tests.{and-left, and-right}

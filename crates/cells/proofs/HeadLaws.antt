@@ -11,7 +11,7 @@ use lib.ListN.{getD}
 use Rattle.cells.specs.Field.{unpack, Fit}
 use Rattle.cells.specs.Form.{holderBound, headFieldsInForm, headInForm, headInRange}
 use Rattle.cells.specs.Layout.{marksWidth, stateWidth, responseWidth, holderWidth, marks, value, headWidths, headValues, headAt, headFrom, headWord, headOf}
-use Rattle.cells.specs.MarkLaws.{SetsBit}
+use Rattle.cells.proofs.MarkLaws.{SetsBit}
 use Rattle.cells.specs.declared.head.Head.{Head}
 use Rattle.cells.specs.declared.head.Head.the-variants.{Free, Held}
 use Rattle.cells.proofs.Codec.{Codec, content-read, marks-read, word-injective}

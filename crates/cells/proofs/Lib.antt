@@ -1,3 +1,4 @@
+pub mod MarkLaws
 pub mod Tests
 pub mod Fields
 pub mod Codec

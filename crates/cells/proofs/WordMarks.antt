@@ -7,7 +7,7 @@ use borrow.Author.Tests.{ltb-true, lt-ltb}
 use lib.Dec.{ltb}
 use Rattle.cells.specs.Layout.{marksWidth, value, marks, markOf, hasMark, addMark, removeMark}
 use Rattle.cells.specs.Marks.{none, has, add, remove}
-use Rattle.cells.specs.MarkLaws.{SetsBit, place-below, has-none, has-low, set-high, set-low, add-below}
+use Rattle.cells.proofs.MarkLaws.{SetsBit, place-below, has-none, has-low, set-high, set-low, add-below}
 
 -- A task below the marks' width has the marks that the laws of `MarkLaws` speak of.
 module _ (i w : ℕ) (h : i < marksWidth) where

@@ -4,7 +4,7 @@ use mathlib.Core.List.{List, [], _∷_}
 use Prim.Native.Nat.{ℕ, _-_}
 use lib.Dec.{leb}
 use lib.ListN.{getD}
-use Rattle.refusal.specs.Number.{numberOf}
+use Rattle.refusal.specs.Number.{Said, accepted, refused}
 use Rattle.refusal.specs.declared.Refusal.the-variants.{Row}
 use Rattle.cells.specs.declared.ceiling.Ceiling.{Ceiling}
 use Rattle.cells.specs.declared.ceiling.Ceiling.the-variants.{Steps, Refused}
@@ -17,7 +17,7 @@ ceilings = 1000 ∷ 8000 ∷ 27000 ∷ 64000 ∷ 125000 ∷ 216000 ∷ 343000 �
 unfoldable pub ceilingOf : ℕ → Ceiling
 ceilingOf n = cond (leb 1 n && leb n 8) (Steps (getD ceilings (n - 1) 0)) (Refused Row)
 
--- The number that is returned for an answer: 0 with a ceiling, else that of the cause.
-abbrev pub ceilingNumber : Ceiling → ℕ
-ceilingNumber (Steps c) = 0
-ceilingNumber (Refused cause) = numberOf cause
+-- What an answer says: the ceiling, or the number of the cause.
+abbrev pub ceilingSaid : Ceiling → Said
+ceilingSaid (Steps c) = accepted (c ∷ [])
+ceilingSaid (Refused cause) = refused cause

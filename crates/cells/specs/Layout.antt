@@ -96,6 +96,10 @@ announcementValues (Response r) m = m ∷ 2 ∷ 0 ∷ r ∷ []
 abbrev pub announcementAt : ℕ → ℕ → Announcement
 announcementAt k p = cond (eqb k 1) (Operation p) (cond (eqb k 2) (Response p) Empty)
 
+-- The kind that a word's field holds.
+abbrev pub kindIn : ℕ → ℕ
+kindIn w = getD (unpack announcementWidths w) 1 0
+
 -- The announcement that a list of field values says.
 abbrev pub announcementFrom : List ℕ → Announcement
 announcementFrom vs = announcementAt (getD vs 1 0) (getD vs 3 0)

@@ -1,5 +1,4 @@
 pub mod Marks
-pub mod MarkLaws
 pub mod Field
 pub mod Layout
 pub mod Form

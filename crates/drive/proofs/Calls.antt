@@ -30,11 +30,10 @@ pub begin-record : (file : List ℕ) (n t o : ℕ) (own : Task) (r : Begin) (a :
     → r ≡ beginTask file n t o own → a ≡ r .answer → BeginTaskSaid file n t o own (r .task) a
 begin-record file n t o own r a e ea = ap (λ (b : BeginAnswer). record { task = r .task; answer = b }) ea ∙ e
 
-pub begin-inside : (file : List ℕ) (ys : List Task) (t o : ℕ) (r : Begin) (a : BeginAnswer)
-    → r ≡ beginTask file (length ys) t o (taskAt ys t) → a ≡ r .answer → BeginSaid file ys t o (set ys t (r .task)) a
+pub begin-inside : (file : List ℕ) (ys : List Task) (t o : ℕ) (own′ : Task) (a : BeginAnswer)
+    → BeginTaskSaid file (length ys) t o (taskAt ys t) own′ a → BeginSaid file ys t o (set ys t own′) a
 unfolding beginOf
-begin-inside file ys t o r a e ea =
-    ap (λ (s : Begin). record { row = set ys t (s .task); answer = s .answer }) (begin-record file (length ys) t o (taskAt ys t) r a e ea)
+begin-inside file ys t o own′ a e = ap (λ (s : Begin). record { row = set ys t (s .task); answer = s .answer }) e
 
 -- The answer for an idle record, from that for a record that is idle.
 pub begin-idle : (file : List ℕ) (n t o : ℕ) (own : Task) (r : Begin) → r ≡ beginTask file n t o own → own ≡ idleTask 0 → r .answer ≡ beginTask file n t o (idleTask 0) .answer
@@ -61,11 +60,10 @@ pub step-record : (file cs : List ℕ) (n t : ℕ) (own : Task) (r : Step) (cs�
     → StepTaskSaid file cs n t own cs′ (r .task) (r .answer) → a ≡ r .answer → StepTaskSaid file cs n t own cs′ (r .task) a
 step-record file cs n t own r cs′ a e ea = ap (λ (b : Answer). record { cells = cs′; task = r .task; answer = b }) ea ∙ e
 
-pub step-inside : (file cs : List ℕ) (ys : List Task) (t : ℕ) (r : Step) (cs′ : List ℕ) (a : Answer)
-    → StepTaskSaid file cs (length ys) t (taskAt ys t) cs′ (r .task) (r .answer) → a ≡ r .answer → StepSaid file cs ys t cs′ (set ys t (r .task)) a
+pub step-inside : (file cs : List ℕ) (ys : List Task) (t : ℕ) (cs′ : List ℕ) (own′ : Task) (a : Answer)
+    → StepTaskSaid file cs (length ys) t (taskAt ys t) cs′ own′ a → StepSaid file cs ys t cs′ (set ys t own′) a
 unfolding stepOf
-step-inside file cs ys t r cs′ a e ea =
-    ap (λ (s : Stepped). record { cells = s .cells; row = set ys t (s .task); answer = s .answer }) (step-record file cs (length ys) t (taskAt ys t) r cs′ a e ea)
+step-inside file cs ys t cs′ own′ a e = ap (λ (s : Stepped). record { cells = s .cells; row = set ys t (s .task); answer = s .answer }) e
 
 -- The cells and the answer of a step for an idle record.
 abbrev pub IdleStepSaid : (file cs : List ℕ) (n t : ℕ) → List ℕ → Answer → Type 0

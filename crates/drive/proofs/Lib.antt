@@ -1,4 +1,5 @@
 pub mod Values
 pub mod TaskCalls
+pub mod RecordCalls
 pub mod Calls
 pub mod Starts

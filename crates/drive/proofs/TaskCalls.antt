@@ -17,7 +17,7 @@ use denote.RattleType.{owns}
 use denote.Builtin.{u8, u64, usize}
 use denote.Ref.{RefT}
 use denote.Slice.{ShrSlice, MutSlice}
-use denote.Steps.{owned, nothing, only}
+use denote.Steps.{nothing, only}
 use denote.Struct.Laws as LL
 use denote.Triple.Spec.{tripleOf}
 use denote.Triple.Statement.{Contract}

@@ -1,4 +1,4 @@
-// The calls on a lent row of task records: start fills it, begin and step take one record out and put it back.
+// The calls on a lent row of task records: start fills it, begin and step take one record out, lend it and put it back.
 use records::record;
 use records::record::Task;
 use stepping::call;
@@ -108,15 +108,16 @@ pub fn step_record(
     step_answer(stepped)
 }
 
-// Begins an operation for the task at a place of the row.
+// Begins an operation for the task at a place of the row: its record is taken out, lent and put back.
 fn begin_in(file: &[u8], row: &mut [Task], index: usize, operation: usize) -> BeginAnswer
     requires { ⌜ index < length (now row) ⌝ }
     ensures { λ r. ⌜ record { row = now (row .exit); answer = r } ≡ beginOf (now (file .entry)) (now (row .entry)) index operation ⌝ }
 {
     let tasks = row.len();
-    let begun = call::begin_task(file, tasks, index, operation, row[index]);
-    row[index] = begun.task;
-    begin_answer(begun)
+    let mut own = row[index];
+    let answer = begin_record(file, tasks, index, operation, &mut own);
+    row[index] = own;
+    answer
 }
 
 // What a begin answers for a task that has no record in the row.
@@ -138,15 +139,16 @@ pub fn begin(file: &[u8], row: &mut [Task], task: usize, operation: usize) -> Be
     begin_in(file, row, task, operation)
 }
 
-// Makes one step for the task at a place of the row.
+// Makes one step for the task at a place of the row: its record is taken out, lent and put back.
 fn step_in(file: &[u8], cells: &mut [u64], row: &mut [Task], index: usize) -> Answer
     requires { ⌜ index < length (now row) ⌝ }
     ensures { λ r. ⌜ record { cells = now (cells .exit); row = now (row .exit); answer = r } ≡ stepOf (now (file .entry)) (now (cells .entry)) (now (row .entry)) index ⌝ }
 {
     let tasks = row.len();
-    let stepped = call::step_task(file, cells, tasks, index, row[index]);
-    row[index] = stepped.task;
-    step_answer(stepped)
+    let mut own = row[index];
+    let answer = step_record(file, cells, tasks, index, &mut own);
+    row[index] = own;
+    answer
 }
 
 // What a step answers for a task that has no record in the row; the cells stay as they were.

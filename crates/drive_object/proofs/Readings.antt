@@ -1,21 +1,22 @@
--- A kernel reads from a word what the answer holds.
+-- A kernel reads from a word what the answer says.
 use mathlib.Core.Path.{_≡_, refl}
-use Prim.Native.Nat.{ℕ, _<_}
+use Prim.Native.Nat.{ℕ, _/_, _%_, _<_}
 use native.Mathlib.Omega.{arith}
 use Rattle.refusal.specs.Number.{numberOf}
 use Rattle.refusal.specs.declared.Refusal.{Refusal}
 use Rattle.refusal.specs.declared.Refusal.the-variants.{File, Dimensions, Length, Entry, Row, Cells, Task, Operation, Pending, Idle, Record, Cell, Line}
-use Rattle.cells.specs.Ceiling.{ceilingNumber}
+use Rattle.cells.specs.Ceiling.{ceilingSaid}
 use Rattle.cells.specs.declared.ceiling.Ceiling.{Ceiling}
 use Rattle.cells.specs.declared.ceiling.Ceiling.the-variants as ceiling
-use Rattle.stepping.specs.Call.{startNumber, beginNumber, stepNumber}
-use Rattle.stepping.specs.declared.call.Answer.{Answer}
-use Rattle.stepping.specs.declared.call.Answer.the-variants as step
+use Rattle.table.specs.Check.{checkSaid}
+use Rattle.table.specs.declared.Shape.{Shape}
+use Rattle.table.specs.declared.Checked.{Checked}
+use Rattle.table.specs.declared.Checked.the-variants as table
+use Rattle.machine.specs.Calls as paper
+use Rattle.stepping.specs.Call.{startSaid}
 use Rattle.stepping.specs.declared.call.StartAnswer.{StartAnswer}
 use Rattle.stepping.specs.declared.call.StartAnswer.the-variants as start
-use Rattle.stepping.specs.declared.call.BeginAnswer.{BeginAnswer}
-use Rattle.stepping.specs.declared.call.BeginAnswer.the-variants as begin
-use Rattle.drive_object.specs.Word.{wordOf, refusalIn, endedIn, lowIn, highIn, refusedWord, startWord, beginWord, stepWord, ceilingWord}
+use Rattle.drive_object.specs.Word.{wordOf, refusalIn, endedIn, lowIn, highIn, valueAt, refusedWord, checkWord, startWord, answerWord, ceilingWord}
 
 -- The four parts of a word, each as wide as its bytes.
 pub parts-read : (c e l h : ℕ) → c < 256 → e < 256 → l < 65536
@@ -38,24 +39,43 @@ number-fits Record = omega arith
 number-fits Cell = omega arith
 number-fits Line = omega arith
 
--- A refused call has the number of its cause.
-pub refused-read : (c : Refusal) → refusalIn (refusedWord c) ≡ numberOf c
-refused-read c = parts-read (numberOf c) 0 0 0 (number-fits c) (omega arith) (omega arith) .0
+-- A refused call shows the number of its cause, and is no operation that has ended.
+pub refused-read : (c : Refusal) → (refusalIn (refusedWord c) ≡ numberOf c) × (endedIn (refusedWord c) ≡ 0)
+refused-read c =
+    let parts = parts-read (numberOf c) 0 0 0 (number-fits c) (omega arith) (omega arith) in
+    (parts .0, parts .1)
 
--- Every answer shows its number: that of the refusal, 0 if the call is accepted.
-pub start-read : (a : StartAnswer) → refusalIn (startWord a) ≡ startNumber a
+-- A start and a ceiling show their number: that of the refusal, 0 if the call is accepted.
+pub start-read : (a : StartAnswer) → refusalIn (startWord a) ≡ startSaid a .number
 start-read start.Started = refl
-start-read (start.Refused c) = refused-read c
+start-read (start.Refused c) = refused-read c .0
 
-pub begin-read : (a : BeginAnswer) → refusalIn (beginWord a) ≡ beginNumber a
-begin-read begin.Begun = refl
-begin-read (begin.Refused c) = refused-read c
+pub ceiling-read : (a : Ceiling) → (refusalIn (ceilingWord a) ≡ ceilingSaid a .number) × (highIn (ceilingWord a) ≡ valueAt (ceilingSaid a) 0)
+ceiling-read (ceiling.Steps k) = (omega arith, omega arith)
+ceiling-read (ceiling.Refused c) =
+    let parts = parts-read (numberOf c) 0 0 0 (number-fits c) (omega arith) (omega arith) in
+    (parts .0, parts .3)
 
-pub step-read : (a : Answer) → refusalIn (stepWord a) ≡ stepNumber a
-step-read step.Running = refl
-step-read (step.Ended r k) = omega arith
-step-read (step.Refused c) = refused-read c
+-- A check shows its number, and the three numbers of an accepted table.
+pub check-refused-read : (c : Refusal) → refusalIn (checkWord (table.Refused c)) ≡ numberOf c
+check-refused-read c = refused-read c .0
 
-pub ceiling-read : (a : Ceiling) → refusalIn (ceilingWord a) ≡ ceilingNumber a
-ceiling-read (ceiling.Steps k) = omega arith
-ceiling-read (ceiling.Refused c) = refused-read c
+pub check-read : (shape : Shape) → shape .states < 65536 → shape .operations < 65536 → let w = checkWord (table.Accepted shape) in
+    (refusalIn w ≡ 0) × (lowIn w ≡ shape .states) × (highIn w % 65536 ≡ shape .operations) × (highIn w / 65536 ≡ shape .start)
+check-read shape s m = (omega arith, omega (arith, s), omega (arith, s, m), omega (arith, s, m))
+
+-- The answers of begin and step: running and ended apart, and the number of a refusal.
+pub begun-read : (refusalIn (answerWord paper.Begun) ≡ 0) × (endedIn (answerWord paper.Begun) ≡ 0)
+begun-read = (refl, refl)
+
+pub running-read : (refusalIn (answerWord paper.Running) ≡ 0) × (endedIn (answerWord paper.Running) ≡ 0)
+running-read = (refl, refl)
+
+pub ended-read : (r k : ℕ) → r < 65536 → let w = answerWord (paper.Ended r k) in
+    (refusalIn w ≡ 0) × (endedIn w ≡ 1) × (lowIn w ≡ r) × (highIn w ≡ k)
+ended-read r k h = parts-read 0 1 r k (omega arith) (omega arith) h
+
+pub answer-refused-read : (number : ℕ) → number < 256 → (refusalIn (answerWord (paper.Refused number)) ≡ number) × (endedIn (answerWord (paper.Refused number)) ≡ 0)
+answer-refused-read number h =
+    let parts = parts-read number 0 0 0 h (omega arith) (omega arith) in
+    (parts .0, parts .1)

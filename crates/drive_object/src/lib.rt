@@ -11,7 +11,7 @@ ghost use mathlib.Core.Path.{_≡_};
 ghost use Prim.Native.Nat.{_+_, _*_};
 ghost use Rattle.cells.specs.Ceiling.{ceilingOf};
 ghost use Rattle.table.specs.Check.{checkOf};
-ghost use Rattle.stepping.specs.Call.{startOf, beginOf, stepOf};
+ghost use Rattle.stepping.specs.Call.{startOf, beginTask, beginOf, stepTask, stepOf};
 ghost use Rattle.drive_object.specs.Word.{wordOf, refusedWord, checkWord, startWord, beginWord, stepWord, ceilingWord};
 
 // The word of a refusal's number, of whether the operation has ended, and of two numbers.
@@ -126,4 +126,32 @@ pub extern "C" fn drive_step(file: &[u8], cells: &mut [u64], row: &mut [Task], t
     ensures { λ r. ⌜ (now (cells .exit) ≡ stepOf (now (file .entry)) (now (cells .entry)) (now (row .entry)) task .cells) × (now (row .exit) ≡ stepOf (now (file .entry)) (now (cells .entry)) (now (row .entry)) task .row) × (r ≡ stepWord (stepOf (now (file .entry)) (now (cells .entry)) (now (row .entry)) task .answer)) ⌝ }
 {
     step_word(drive::step(file, cells, row, task))
+}
+
+// Begins an operation for a task whose record is lent.
+#[no_mangle]
+pub extern "C" fn drive_begin_record(
+    file: &[u8],
+    tasks: usize,
+    task: usize,
+    operation: usize,
+    own: &mut Task,
+) -> u64
+    ensures { λ r. ⌜ (now (own .exit) ≡ beginTask (now (file .entry)) tasks task operation (now (own .entry)) .task) × (r ≡ beginWord (beginTask (now (file .entry)) tasks task operation (now (own .entry)) .answer)) ⌝ }
+{
+    begin_word(drive::begin_record(file, tasks, task, operation, own))
+}
+
+// Makes one step for a task whose record is lent.
+#[no_mangle]
+pub extern "C" fn drive_step_record(
+    file: &[u8],
+    cells: &mut [u64],
+    tasks: usize,
+    task: usize,
+    own: &mut Task,
+) -> u64
+    ensures { λ r. ⌜ (now (cells .exit) ≡ stepTask (now (file .entry)) (now (cells .entry)) tasks task (now (own .entry)) .cells) × (now (own .exit) ≡ stepTask (now (file .entry)) (now (cells .entry)) tasks task (now (own .entry)) .task) × (r ≡ stepWord (stepTask (now (file .entry)) (now (cells .entry)) tasks task (now (own .entry)) .answer)) ⌝ }
+{
+    step_word(drive::step_record(file, cells, tasks, task, own))
 }

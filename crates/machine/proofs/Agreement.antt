@@ -8,8 +8,8 @@ use native.Mathlib.Decide.{ℕ-discrete}
 use native.Mathlib.Omega.{arith}
 use lib.ListN.{length}
 use Rattle.machine.specs.Object.{Object}
-use Rattle.machine.specs.Memory.{update}
-use Rattle.machine.specs.Run.{Call, Begin, Step, Answer, Begun, Running, Ended, Refused, Event}
+use Rattle.machine.specs.Update.{update}
+use Rattle.machine.specs.Calls.{Call, Begin, Step, Answer, Begun, Running, Ended, Refused, Event}
 use Rattle.machine.specs.Book.{Operation, Page, Idle, Waiting, Done, Book, blank, turned, entered, Entering, none, enter, Booking, begun, begin-task, begin-operation, begin-pending, running-waiting, running-done, ended, step-task, step-idle}
 use Rattle.machine.specs.History.{At, Begins, Ends, replayed, reached}
 use Rattle.machine.proofs.Update.{clash, update-all}

@@ -3,7 +3,7 @@ use mathlib.Core.Path.{_≡_, refl, sym, _∙_, ap}
 use mathlib.Core.Bool.{true, false}
 use mathlib.Core.Logic.{_≢_}
 use Prim.Native.Nat.{ℕ, _<_}
-use Rattle.machine.specs.Object.{Object}
+use Rattle.machine.specs.Object.{Object, Opens}
 use Rattle.machine.specs.Memory.{Content, Cell, Memory, stateOf}
 use Rattle.machine.specs.Machine.{Phase, ReadOnly, Announce, Poll, Next, Go, Turn, End}
 use Rattle.machine.specs.Kind.{Looping, kind, off}
@@ -66,10 +66,10 @@ module _ (b : Object) (c : Config) (k : Book) (i : ℕ) where
 
   module _ (rel : Related c k) where
     -- A reader takes effect in the very step that ends it. It keeps the state.
-    between-reads : c .task i .phase ≡ ReadOnly → b .good (stateOf (headValue (c .memory))) ≡ true → c .task i .operation < b .operations → b .changing (c .task i .operation) ≡ false
+    between-reads : c .task i .phase ≡ ReadOnly → Opens b (stateOf (headValue (c .memory))) → c .task i .operation < b .operations → b .changing (c .task i .operation) ≡ false
         → Ends c (c .memory) i (enter b i k) (b .outcome (stateOf (headValue (c .memory))) (c .task i .operation))
     between-reads z g h d = record {
-      state = done .state ∙ ap (λ q. b .next q o) (rel .state) ∙ b .still _ o g h d;
+      state = done .state ∙ ap (λ q. b .next q o) (rel .state) ∙ g .lawful .still _ o (g .good) h d;
       others = λ t d. rw (enter-other b i t k d) (rel .page t);
       page = done .page ∙ ap (λ q. Done (b .outcome q o) (c .task i .steps)) (rel .state);
     }
@@ -114,7 +114,7 @@ module _ (b : Object) (c : Config) (k : Book) (i : ℕ) where
 
     -- A step by its phase f, if its effect is allowed and a reader's operation is reading.
     between-by : {f : Phase} {e : Effect} {y : Next} → Progress b (c .memory) i (c .task i .operation) f e y → c .task i .phase ≡ f → off (kind f) ≡ false
-        → Safe c → Allowed b (c .memory) i e → b .good (stateOf (headValue (c .memory))) ≡ true → OperationFormed b (kind f) (c .task i .operation) (c .task i .steps)
+        → Safe c → Allowed b (c .memory) i e → Opens b (stateOf (headValue (c .memory))) → OperationFormed b (kind f) (c .task i .operation) (c .task i .steps)
         → Between c (effect i e (c .memory)) i (enterBy b (c .memory) i f k) y
     between-by idles z p safe u g r = clash refl p
     between-by reads z p safe u g r = rw (enters-reader b (c .memory) i k) (between-reads z g (r .0) (r .1))
@@ -129,4 +129,4 @@ module _ (b : Object) (c : Config) (k : Book) (i : ℕ) where
     between {n} safe formed h p v =
         between-by (progress b (c .memory) i (c .task i .priority) (c .task i .operation) v) refl p safe
         (allowed b (c .memory) i (c .task i .priority) (c .task i .operation) (safe .holder) v (safe .each i))
-        (state-good b n (headValue (c .memory)) (formed .memory .head .value)) (formed .task i h .operation)
+        (record { lawful = formed .lawful; good = state-good b n (headValue (c .memory)) (formed .memory .head .value) }) (formed .task i h .operation)

@@ -7,10 +7,12 @@ use native.Mathlib.Omega.{arith}
 use native.Mathlib.Decide.{ℕ-discrete}
 use borrow.Author.Tests.{lt-ltb, le-ltb}
 use Rattle.machine.specs.Object.{Object}
-use Rattle.machine.specs.Memory.{HeadValue, Free, Held, Content, Empty, Op, Resp, Memory, either, update}
+use Rattle.machine.specs.Memory.{HeadValue, Free, Held, Content, Empty, Op, Resp, Memory}
+use Rattle.machine.specs.Update.{either, update}
 use Rattle.machine.specs.Machine.{Phase, Idle, Task, Next, Go, Turn, End, advance}
 use Rattle.machine.specs.Kind.{Kind, Off, Reading, Opening, Looping, Exiting, Retracting, kind, off}
-use Rattle.machine.specs.Run.{Config, Call, Begin, Step, Running, Served, firstPhase, answerOf, serve}
+use Rattle.machine.specs.Run.{Config, Served, firstPhase, answerOf, serve}
+use Rattle.machine.specs.Calls.{Call, Begin, Step, Running}
 use Rattle.machine.specs.Run.{begun as began}
 use Rattle.machine.specs.Invariant.{Safe}
 use Rattle.machine.specs.Form.{Formed}

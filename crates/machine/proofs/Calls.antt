@@ -5,11 +5,11 @@ use Prim.Native.Nat.{ℕ, _<_}
 use native.Mathlib.Omega.{arith}
 use lib.Dec.{ltb}
 use borrow.Author.Tests.{ltb-true, ltb-false}
-use Rattle.refusal.specs.declared.Refusal.the-variants as cause
 use Rattle.machine.specs.Object.{Object}
 use Rattle.machine.specs.Machine.{Phase, Idle, ReadOnly, Announce, Poll, LoadHead, LinkHead, LoadPriority, LoadOwn, Apply, ReloadApply, LoadHelped, LinkHelped, Validate, HandOver, ReloadHandOver, Release, ReloadRelease, ClearHead, ReloadClear, LoadExit, LinkExit, ClearExit, ReleaseExit, Retract, Next}
 use Rattle.machine.specs.Kind.{kind, off}
-use Rattle.machine.specs.Run.{Config, Call, Begin, Step, Served, unserved, begun, begin, step, stepped, answerOf, serve}
+use Rattle.machine.specs.Run.{Config, Served, unserved, begun, begin, step, stepped, answerOf, serve}
+use Rattle.machine.specs.Calls.{Call, Begin, Step}
 use Rattle.machine.proofs.Effect.{Effect}
 use Rattle.machine.proofs.Moved.{moved, Steps, steps}
 
@@ -43,12 +43,12 @@ off-idle (Retract v) e = cc
 -- What a call of x leaves and answers, over the configuration c.
 pub data Serving (b : Object) (n : ℕ) (c : Config) : Call → Served → Type 0 where
   begins : {i o : ℕ} → i < n → o < b .operations → c .task i .phase ≡ Idle → Serving b n c (Begin i o) (begun b i o c)
-  begin-task : {i o : ℕ} → (i < n → ⊥) → Serving b n c (Begin i o) (unserved c cause.Task)
-  begin-operation : {i o : ℕ} → i < n → (o < b .operations → ⊥) → Serving b n c (Begin i o) (unserved c cause.Operation)
-  begin-pending : {i o : ℕ} → i < n → o < b .operations → off (kind (c .task i .phase)) ≡ false → Serving b n c (Begin i o) (unserved c cause.Pending)
+  begin-task : {i o : ℕ} → (i < n → ⊥) → Serving b n c (Begin i o) (unserved c 7)
+  begin-operation : {i o : ℕ} → i < n → (o < b .operations → ⊥) → Serving b n c (Begin i o) (unserved c 8)
+  begin-pending : {i o : ℕ} → i < n → o < b .operations → off (kind (c .task i .phase)) ≡ false → Serving b n c (Begin i o) (unserved c 9)
   moves : {i : ℕ} {e : Effect} {y : Next} → i < n → off (kind (c .task i .phase)) ≡ false → Steps b i c e y → Serving b n c (Step i) (record { config = moved n i c e y; answer = answerOf (c .task i .steps) y })
-  step-task : {i : ℕ} → (i < n → ⊥) → Serving b n c (Step i) (unserved c cause.Task)
-  step-idle : {i : ℕ} → i < n → c .task i .phase ≡ Idle → Serving b n c (Step i) (unserved c cause.Idle)
+  step-task : {i : ℕ} → (i < n → ⊥) → Serving b n c (Step i) (unserved c 7)
+  step-idle : {i : ℕ} → i < n → c .task i .phase ≡ Idle → Serving b n c (Step i) (unserved c 10)
 
 -- What holds of either branch holds of the picked one.
 pub pick-case : {A : Type 0} (P : A → Type 0) (t : Bool) {x y : A} → (t ≡ true → P x) → (t ≡ false → P y) → P (cond t x y)

@@ -5,7 +5,7 @@ use mathlib.Core.Logic.{_≢_}
 use Prim.Native.Nat.{ℕ, _+_, _*_, _≤_}
 use native.Mathlib.Decide.{ℕ-discrete}
 use native.Mathlib.Omega.{arith}
-use Rattle.machine.specs.Marks.{has}
+use Rattle.cells.specs.Marks.{has}
 use Rattle.machine.specs.Object.{Object}
 use Rattle.machine.specs.Memory.{Content, Cell, Memory}
 use Rattle.machine.specs.Machine.{decided}

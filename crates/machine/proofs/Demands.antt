@@ -6,9 +6,10 @@ use Prim.Native.Nat.{ℕ, _*_, _≤_, _<_}
 use native.Mathlib.Nat.{zero-add}
 use native.Mathlib.Omega.{arith}
 use lib.ListN.{length}
-use Rattle.machine.specs.Object.{Object}
+use Rattle.machine.specs.Object.{Object, Opens}
 use Rattle.machine.specs.Memory.{Memory, image}
-use Rattle.machine.specs.Run.{Call, start, serve, run, history}
+use Rattle.machine.specs.Run.{start, serve, run, history}
+use Rattle.machine.specs.Calls.{Call}
 use Rattle.machine.specs.Book.{Legal}
 use Rattle.machine.specs.History.{Pends, pending}
 use Rattle.machine.specs.Demand.{Shown, Demand}
@@ -31,7 +32,7 @@ machineShows b n q = record {
   cells = λ xs. run b n xs (start q) .memory;
 }
 
-module _ (b : Object) (n q : ℕ) (good : b .good q ≡ true) where
+module _ (b : Object) (n q : ℕ) (good : Opens b q) where
   -- Each call with its answer is a legal step of the book.
   legal : (xs : List Call) (x : Call) → Legal b n (length xs) (record { call = x; answer = serve b n x (run b n xs (start q)) .answer }) (bookOf b n q xs) (bookOf b n q (xs ++ (x ∷ [])))
   legal xs x =

@@ -6,7 +6,8 @@ use Prim.Native.Nat.{ℕ, suc, _+_, _-_, _%_, _≤_, _<_, zero-le}
 use native.Mathlib.Decide.{ℕ-discrete, decLe}
 use native.Mathlib.Nat.{mod-eq-of-lt, mod-self}
 use native.Mathlib.Omega.{arith}
-use Rattle.machine.specs.Memory.{Memory, either}
+use Rattle.machine.specs.Memory.{Memory}
+use Rattle.machine.specs.Update.{either}
 use Rattle.machine.specs.Machine.{decided}
 use Rattle.machine.specs.Invariant.{content, IsOp}
 use Rattle.machine.specs.Potential.{Work, Elsewhere, Applying, waiting, skips, gap, dist}

@@ -5,12 +5,14 @@ use mathlib.Core.List.{List, [], _∷_}
 use Prim.Native.Nat.{ℕ, suc, _%_, _<_}
 use native.Mathlib.Omega.{arith}
 use native.Mathlib.Nat.{mod-lt, one-le-pow}
-use Rattle.machine.specs.Marks.{add-below, remove-below}
-use Rattle.machine.specs.Object.{Object}
-use Rattle.machine.specs.Memory.{HeadValue, Free, Held, Content, Empty, Cell, Memory, stateOf, unmarked, update}
+use Rattle.cells.proofs.MarkLaws.{add-below, remove-below}
+use Rattle.machine.specs.Object.{Object, Lawful, Opens}
+use Rattle.machine.specs.Memory.{HeadValue, Free, Held, Content, Empty, Cell, Memory, stateOf, unmarked}
+use Rattle.machine.specs.Update.{update}
 use Rattle.machine.specs.Machine.{Phase, Task, linked, released, Next, Go, Turn, End, phaseOf, ends, turns, advance}
 use Rattle.machine.specs.Kind.{kind, off}
-use Rattle.machine.specs.Run.{Config, Call, Served, start, idleTask, firstPhase, serve, run}
+use Rattle.machine.specs.Run.{Config, Served, start, idleTask, firstPhase, serve, run}
+use Rattle.machine.specs.Calls.{Call}
 use Rattle.machine.specs.Invariant.{TaskSafe, Safe}
 use Rattle.machine.specs.Form.{HeadValueFormed, ContentFormed, CellFormed, HeadFormed, AnnouncementFormed, MemoryFormed, PhaseFormed, OperationFormed, TaskFormed, Formed}
 use Rattle.machine.proofs.Update.{clash, update-all}
@@ -85,7 +87,7 @@ module _ (b : Object) (n : ℕ) where
   abbrev NextFormed : (o s : ℕ) → Effect → Next → Type 0
   NextFormed o s e y = EffectFormed e × PhaseFormed b n (phaseOf y) × OperationFormed b (kind (phaseOf y)) (cond (ends y) 0 o) (cond (ends y) 0 (suc s))
 
-  module _ {m : Memory} (s : MemoryFormed b n m) {i p x : ℕ} (below : i < n) (first : p < n) where
+  module _ (lawful : Lawful b) {m : Memory} (s : MemoryFormed b n m) {i p x : ℕ} (below : i < n) (first : p < n) where
     next-formed : (k : ℕ) {f : Phase} {e : Effect} {y : Next} → Branch b m i p x f e y → off (kind f) ≡ false → TaskSafe m i x f → PhaseFormed b n f → OperationFormed b (kind f) x k → NextFormed x k e y
     next-formed k stay-idle d t f w = clash refl d
     next-formed k read-only d t f w = (tt, tt, (refl, refl))
@@ -103,7 +105,7 @@ module _ (b : Object) (n : ℕ) where
     next-formed k (own-empty e) d t f w = (tt, tt, w)
     next-formed k (apply {h = h} {o = o} e) d t f w =
         let g = state-good (h .value) (f .0 .value) in
-        ((b .closed _ o g (f .2), f .1, b .bounded _ o g (f .2)), tt, w)
+        ((lawful .closed _ o g (f .2), f .1, lawful .bounded _ o g (f .2)), tt, w)
     next-formed k (apply-fails _) d t f w = (tt, f, w)
     next-formed k (reload-apply e) d t f w = (tt, (s .head, f .1, f .2), w)
     next-formed k (reload-apply-lost _) d t f w = (tt, tt, w)
@@ -144,6 +146,7 @@ module _ (b : Object) (n : ℕ) where
   -- A task's record and the cells changed.
   task-formed : {c : Config} → Formed b n c → {m : Memory} → MemoryFormed b n m → (i : ℕ) (t : Task) → i < n → TaskFormed b n t → Formed b n (record { memory = m; task = update (c .task) i t })
   task-formed {c} z s i t h y = record {
+    lawful = z .lawful;
     memory = s;
     task = update-all (c .task) i t (λ j (r : Task). j < n → TaskFormed b n r) (λ _. y) (λ j _. z .task j);
     untouched = update-all (c .task) i t (λ j (r : Task). (j < n → ⊥) → r ≡ idleTask j) (λ u. absurd (u h)) (λ j _. z .untouched j);
@@ -157,7 +160,7 @@ module _ (b : Object) (n : ℕ) where
   pub formed-moved : (i : ℕ) {c : Config} {e : Effect} {y : Next} → i < n → off (kind (c .task i .phase)) ≡ false → Safe c → Formed b n c → Steps b i c e y → Formed b n (moved n i c e y)
   formed-moved i {c} {e} {y} h d s z v =
       let t = z .task i h in
-      let x = next-formed (z .memory) h (t .priority) (c .task i .steps) v d (s .each i) (t .phase) (t .operation) in
+      let x = next-formed (z .lawful) (z .memory) h (t .priority) (c .task i .steps) v d (s .each i) (t .phase) (t .operation) in
       task-formed z (effect-formed h (z .memory) e (x .0)) i (advance n (c .task i) y) h (record { phase = x .1; priority = turned-below y (t .priority); operation = x .2 })
 
   begun-formed : {o p : ℕ} → o < b .operations → p < n → (t : Bool) → b .changing o ≡ t → TaskFormed b n (record { phase = firstPhase t; operation = o; priority = p; steps = 0 })
@@ -176,9 +179,10 @@ module _ (b : Object) (n : ℕ) where
   pub formed-serve : (x : Call) (c : Config) → Safe c → Formed b n c → Formed b n (serve b n x c .config)
   formed-serve x c s z = formed-serving s z (serving b n c x)
 
-  pub formed-start : {q : ℕ} → b .good q ≡ true → Formed b n (start q)
+  pub formed-start : {q : ℕ} → Opens b q → Formed b n (start q)
   formed-start e = record {
-    memory = record { head = unmarked-formed e; announcement = λ j. unmarked-formed tt; untouched = λ j _. refl };
+    lawful = e .lawful;
+    memory = record { head = unmarked-formed (e .good); announcement = λ j. unmarked-formed tt; untouched = λ j _. refl };
     task = λ i h. record { phase = tt; priority = h; operation = (refl, refl) };
     untouched = λ i _. refl;
   }
@@ -188,5 +192,5 @@ module _ (b : Object) (n : ℕ) where
   formed-from [] c s z = z
   formed-from (x ∷ xs) c s z = formed-from xs (serve b n x c .config) (safe-serve b n x c s) (formed-serve x c s z)
 
-  pub formed-run : (xs : List Call) {q : ℕ} → b .good q ≡ true → Formed b n (run b n xs (start q))
+  pub formed-run : (xs : List Call) {q : ℕ} → Opens b q → Formed b n (run b n xs (start q))
   formed-run xs {q} e = formed-from xs (start q) (safe-start q) (formed-start e)

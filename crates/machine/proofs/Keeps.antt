@@ -6,8 +6,9 @@ use Prim.Native.Nat.{ℕ, suc, _+_}
 use native.Mathlib.Nat.{add-zero}
 use native.Mathlib.Omega.{arith}
 use lib.ListN.{length}
-use Rattle.machine.specs.Object.{Object}
-use Rattle.machine.specs.Run.{Config, Call, Event, start, serve, run, history}
+use Rattle.machine.specs.Object.{Object, Opens}
+use Rattle.machine.specs.Run.{Config, start, serve, run, history}
+use Rattle.machine.specs.Calls.{Call, Event}
 use Rattle.machine.specs.Invariant.{Safe}
 use Rattle.machine.specs.Form.{Formed}
 use Rattle.machine.specs.Book.{Book, blank, Kept, rest, then, Extends}
@@ -27,7 +28,7 @@ pub record Sound (b : Object) (n : ℕ) (c : Config) (k : Book) : Type 0 where
   pub related : Related c k
 
 module _ (b : Object) (n : ℕ) where
-  pub sound-start : {q : ℕ} → b .good q ≡ true → Sound b n (start q) (blank q)
+  pub sound-start : {q : ℕ} → Opens b q → Sound b n (start q) (blank q)
   sound-start {q} g = record { safe = safe-start q; formed = formed-start b n g; related = related-start q }
 
   sound-serve : (place : ℕ) (x : Call) {c : Config} {k : Book} → Sound b n c k → Sound b n (serve b n x c .config) (keep b n place x c k)
@@ -45,7 +46,11 @@ module _ (b : Object) (n : ℕ) where
   kept-from place [] s = rest
   kept-from place (x ∷ xs) {c} {k} s = then (legal-serve b n place c k (s .related) (s .safe) (s .formed) x) (kept-from (suc place) xs (sound-serve place x s))
 
-  -- A list that goes on: the history and the book are those from where the first part led.
+  -- A list that goes on: configuration, history and book are those from where the first part led.
+  pub run-append : (xs ys : List Call) (c : Config) → run b n (xs ++ ys) c ≡ run b n ys (run b n xs c)
+  run-append [] ys c = refl
+  run-append (x ∷ xs) ys c = run-append xs ys (serve b n x c .config)
+
   pub history-append : (xs ys : List Call) (c : Config) → history b n (xs ++ ys) c ≡ history b n xs c ++ history b n ys (run b n xs c)
   history-append [] ys c = refl
   history-append (x ∷ xs) ys c = ap (λ (es : List Event). record { call = x; answer = serve b n x c .answer } ∷ es) (history-append xs ys (serve b n x c .config))
@@ -58,7 +63,7 @@ module _ (b : Object) (n : ℕ) where
       shift : suc place + length xs ≡ place + suc (length xs)
       shift = omega arith
 
-module _ (b : Object) (n q : ℕ) (good : b .good q ≡ true) where
+module _ (b : Object) (n q : ℕ) (good : Opens b q) where
   pub sound : (xs : List Call) → Sound b n (run b n xs (start q)) (bookOf b n q xs)
   sound xs = sound-from b n 0 xs (sound-start b n good)
 

@@ -3,7 +3,7 @@ use mathlib.Core.Path.{_≡_, refl, sym, _∙_, ap}
 use mathlib.Core.List.{List, [], _∷_, _++_, append-nil, append-assoc}
 use Prim.Native.Nat.{ℕ}
 use Rattle.machine.specs.Object.{Object}
-use Rattle.machine.specs.Run.{Call, Answer, Event}
+use Rattle.machine.specs.Calls.{Call, Answer, Event}
 use Rattle.machine.specs.Book.{Operation, Extends, Book, Entering, none, enter, Booking, begun, begin-task, begin-operation, begin-pending, running-waiting, running-done, ended, step-task, step-idle, Kept, rest, then}
 
 extends-trans : (xs : List Operation) {ys zs : List Operation} → Extends xs ys → Extends ys zs → Extends xs zs

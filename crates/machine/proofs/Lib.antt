@@ -41,3 +41,4 @@ pub mod Falling
 pub mod Beginning
 pub mod WaitFree
 pub mod Demands
+pub mod Emptied

@@ -5,7 +5,7 @@ use Prim.Native.Nat.{ℕ}
 use native.Mathlib.Omega.{arith}
 use lib.ListN.{length, length-append}
 use Rattle.machine.specs.Object.{Object}
-use Rattle.machine.specs.Run.{Event}
+use Rattle.machine.specs.Calls.{Event}
 use Rattle.machine.specs.Book.{Book, blank, Kept, rest, then}
 use Rattle.machine.specs.History.{Linearizes}
 use Rattle.machine.proofs.Lists.{at-bound, at-next}

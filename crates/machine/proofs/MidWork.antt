@@ -3,8 +3,9 @@ use mathlib.Core.Path.{_≡_, sym, _∙_}
 use mathlib.Core.Bool.{true}
 use mathlib.Core.List.{List}
 use Prim.Native.Nat.{ℕ}
-use Rattle.machine.specs.Object.{Object}
-use Rattle.machine.specs.Run.{Call, start, run, history}
+use Rattle.machine.specs.Object.{Object, Opens}
+use Rattle.machine.specs.Run.{start, run, history}
+use Rattle.machine.specs.Calls.{Call}
 use Rattle.machine.specs.History.{Reads, pending}
 use Rattle.machine.proofs.Pending.{pending-is}
 use Rattle.machine.proofs.Quiet.{Quiet, quiet, holder-works}
@@ -12,7 +13,7 @@ use Rattle.machine.proofs.Keeps.{Sound, sound, state-reached}
 use Rattle.machine.specs.Keeping.{bookOf}
 use Rattle.machine.specs.Points.{MidWork}
 
-pub mid-work : (b : Object) (n q : ℕ) → b .good q ≡ true → (xs : List Call) → MidWork b q (run b n xs (start q) .memory) (history b n xs (start q)) (bookOf b n q xs)
+pub mid-work : (b : Object) (n q : ℕ) → Opens b q → (xs : List Call) → MidWork b q (run b n xs (start q) .memory) (history b n xs (start q)) (bookOf b n q xs)
 mid-work b n q good xs = record {
   empty = λ t r. trace t r .empty;
   head-mark = λ t r. trace t r .head;

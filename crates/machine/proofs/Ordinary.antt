@@ -5,7 +5,8 @@ use mathlib.Core.Logic.{_≢_}
 use Prim.Native.Nat.{ℕ, _+_, _*_, _≤_}
 use native.Mathlib.Decide.{ℕ-discrete}
 use native.Mathlib.Omega.{arith}
-use Rattle.machine.specs.Marks.{has, add, has-none, has-add-other, has-remove, has-remove-other, add-has}
+use Rattle.cells.specs.Marks.{has, add}
+use Rattle.cells.proofs.MarkLaws.{has-none, has-add-other, has-remove, has-remove-other, add-has}
 use Rattle.machine.specs.Object.{Object}
 use Rattle.machine.specs.Memory.{HeadValue, Held, Content, Empty, Op, Resp, Cell, Memory, unmarked, head-dec, announcement-dec}
 use Rattle.machine.specs.Machine.{decided, linked, released}

@@ -2,7 +2,8 @@
 use mathlib.Core.Path.{_≡_, refl, sym, _∙_, ap}
 use mathlib.Core.Bool.{true, false}
 use Prim.Native.Nat.{ℕ}
-use Rattle.machine.specs.Marks.{has, has-none, has-add, has-remove}
+use Rattle.cells.specs.Marks.{has}
+use Rattle.cells.proofs.MarkLaws.{has-none, has-add, has-remove}
 use Rattle.machine.specs.Object.{Object}
 use Rattle.machine.specs.Memory.{HeadValue, Held, Content, Empty, Op, Resp, Cell, Memory}
 use Rattle.machine.specs.Machine.{Phase, linked, Next, phaseOf}

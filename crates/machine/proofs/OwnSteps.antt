@@ -6,14 +6,15 @@ use mathlib.Core.List.{List}
 use Prim.Native.Nat.{ℕ, suc, _<_}
 use native.Mathlib.Omega.{arith}
 use native.Mathlib.Decide.{decLt}
-use Rattle.machine.specs.Object.{Object}
+use Rattle.machine.specs.Object.{Object, Opens}
 use Rattle.machine.specs.Memory.{Content, Empty, Memory, stateOf, unmarked}
 use Rattle.machine.specs.Machine.{Phase, ReadHead, WriteAnnouncement, plan, Task, Next, Go, Turn, End, phaseOf, ends}
 use Rattle.machine.specs.Kind.{Kind, Off, Reading, Opening, Looping, Exiting, Retracting, kind, off}
-use Rattle.machine.specs.Run.{Config, Call, Step, Running, Ended, Served, start, answerOf, serve, run, history}
+use Rattle.machine.specs.Run.{Config, Served, start, answerOf, serve, run, history}
+use Rattle.machine.specs.Calls.{Call, Step, Running, Ended}
 use Rattle.machine.specs.Book.{Book}
 use Rattle.machine.specs.History.{Nothing, Pends, pending}
-use Rattle.machine.specs.Demand.{Accepted}
+use Rattle.machine.specs.Demand.{StepAccepted}
 use Rattle.machine.specs.Invariant.{headValue, content, OwnContent}
 use Rattle.machine.specs.Form.{OperationFormed, Formed}
 use Rattle.machine.proofs.Update.{clash}
@@ -25,7 +26,7 @@ use Rattle.machine.proofs.Progress.{announced, Progress, idles, reads, 
 use Rattle.machine.proofs.Pending.{pendingOf, pending-is}
 use Rattle.machine.proofs.Keeps.{Sound, sound}
 use Rattle.machine.specs.Keeping.{bookOf}
-use Rattle.machine.specs.Points.{NextStep, accessOf}
+use Rattle.machine.specs.Points.{NextStep, nextAccess}
 
 -- An announced operation is changing, and its announcement is not empty.
 announced-changing : (b : Object) (d : Kind) (o s : ℕ) → announced d ≡ true → OperationFormed b d o s → b .changing o ≡ true
@@ -36,7 +37,7 @@ announced-changing b Looping o s e y = y .1
 announced-changing b (Exiting v) o s e y = y .1
 announced-changing b (Retracting v) o s e y = y .1
 
-announced-content : (d : Kind) (a : Content) (o : ℕ) → announced d ≡ true → OwnContent a o d → a ≡ Empty → ⊥
+pub announced-content : (d : Kind) (a : Content) (o : ℕ) → announced d ≡ true → OwnContent a o d → a ≡ Empty → ⊥
 announced-content Off a o e y g = clash e refl
 announced-content Reading a o e y g = clash e refl
 announced-content Opening a o e y g = clash e refl
@@ -68,7 +69,7 @@ module _ (b : Object) (m : Memory) (i p x s : ℕ) where
   ending-step retracts w r z = refl
 
   -- A changing operation that goes on stands announced.
-  running-step : {f : Phase} {e : Effect} {y : Next} → Progress b m i x f e y → off (kind f) ≡ false → ends y ≡ false → {a : Content} → OwnContent a x (kind (phaseOf y)) → a ≡ Empty → ⊥
+  pub running-step : {f : Phase} {e : Effect} {y : Next} → Progress b m i x f e y → off (kind f) ≡ false → ends y ≡ false → {a : Content} → OwnContent a x (kind (phaseOf y)) → a ≡ Empty → ⊥
   running-step idles d z w g = clash refl d
   running-step reads d z w g = clash refl z
   running-step announces d z w g = rw g at w
@@ -78,12 +79,12 @@ module _ (b : Object) (m : Memory) (i p x s : ℕ) where
 
 -- ---- Answers
 
-answer-accepted : (k : ℕ) (y : Next) → Accepted (answerOf k y)
+answer-accepted : (k : ℕ) (y : Next) → StepAccepted (answerOf k y)
 answer-accepted k (Go f) = tt
 answer-accepted k (Turn f) = tt
 answer-accepted k (End v) = tt
 
-answer-ends : (k : ℕ) (y : Next) (r j : ℕ) → answerOf k y ≡ Ended r j → (ends y ≡ true) × (j ≡ suc k)
+pub answer-ends : (k : ℕ) (y : Next) (r j : ℕ) → answerOf k y ≡ Ended r j → (ends y ≡ true) × (j ≡ suc k)
 answer-ends k (Go f) r j e = (cc, cc)
 answer-ends k (Turn f) r j e = (cc, cc)
 answer-ends k (End v) r j e = (refl, cc)
@@ -96,14 +97,14 @@ answer-runs k (End v) e = cc
 -- ---- The next step of task t, at every point
 
 -- A step of task t that is accepted.
-record OwnStep (b : Object) (c : Config) (t : ℕ) (s : Served) : Type 0 where
-  change : Effect
-  next : Next
-  branch : Steps b t c change next
-  answer : s .answer ≡ answerOf (c .task t .steps) next
-  cells : s .config .memory ≡ effect t change (c .memory)
+pub record OwnStep (b : Object) (c : Config) (t : ℕ) (s : Served) : Type 0 where
+  pub change : Effect
+  pub next : Next
+  pub branch : Steps b t c change next
+  pub answer : s .answer ≡ answerOf (c .task t .steps) next
+  pub cells : s .config .memory ≡ effect t change (c .memory)
 
-own-step : {b : Object} {n : ℕ} {c : Config} {t : ℕ} {s : Served} → Serving b n c (Step t) s → t < n → off (kind (c .task t .phase)) ≡ false → OwnStep b c t s
+pub own-step : {b : Object} {n : ℕ} {c : Config} {t : ℕ} {s : Served} → Serving b n c (Step t) s → t < n → off (kind (c .task t .phase)) ≡ false → OwnStep b c t s
 own-step (moves {e = e} {y = y} _ _ v) h d = record { change = e; next = y; branch = v; answer = refl; cells = refl }
 own-step (step-task z) h d = absurd (z h)
 own-step (step-idle _ z) h d = clash (ap (λ f. off (kind f)) z) d
@@ -130,7 +131,7 @@ own-record b n c f t o s e = record { below = go (decLt t n); works = z .0; oper
     go (no h) = clash (ap (λ x. off (kind (x .phase))) (f .untouched t h)) (z .0)
 
 next-own-step : {b : Object} {n : ℕ} {c : Config} {k : Book} → Sound b n c k → {t o s : ℕ} → OwnRecord n c t o s → {z : Served} → OwnStep b c t z
-    → NextStep b t o s (k .state) (accessOf b t c) (z .answer) (z .config .memory)
+    → NextStep b t o s (k .state) (nextAccess b t c) (z .answer) (z .config .memory)
 next-own-step {b} {n} {c} {k} sound {t} {o} {s} r {z} u = record {
   accepted = rw (u .answer) (answer-accepted _ (u .next));
   count = λ v j e. answer-ends _ (u .next) v j (sym (u .answer) ∙ e) .1 ∙ ap suc (r .steps);
@@ -156,8 +157,8 @@ next-own-step {b} {n} {c} {k} sound {t} {o} {s} r {z} u = record {
     same e = ap (λ y. b .changing y) (r .operation) ∙ e
 
 -- At every point of a run.
-pub next-step : (b : Object) (n q : ℕ) → b .good q ≡ true → (xs : List Call) (t o s : ℕ) → pending (history b n xs (start q)) t ≡ Pends o s
-    → NextStep b t o s (bookOf b n q xs .state) (accessOf b t (run b n xs (start q))) (serve b n (Step t) (run b n xs (start q)) .answer) (serve b n (Step t) (run b n xs (start q)) .config .memory)
+pub next-step : (b : Object) (n q : ℕ) → Opens b q → (xs : List Call) (t o s : ℕ) → pending (history b n xs (start q)) t ≡ Pends o s
+    → NextStep b t o s (bookOf b n q xs .state) (nextAccess b t (run b n xs (start q))) (serve b n (Step t) (run b n xs (start q)) .answer) (serve b n (Step t) (run b n xs (start q)) .config .memory)
 next-step b n q g xs t o s e = next-own-step z r (own-step (serving b n _ (Step t)) (r .below) (r .works))
   where
     z : Sound b n (run b n xs (start q)) (bookOf b n q xs)

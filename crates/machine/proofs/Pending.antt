@@ -6,10 +6,11 @@ use Prim.Native.Nat.{ℕ, suc}
 use lib.Dec.{eqb}
 use borrow.Author.Tests.{eq-eqb, ne-eqb}
 use Rattle.machine.specs.Object.{Object}
-use Rattle.machine.specs.Memory.{update}
+use Rattle.machine.specs.Update.{update}
 use Rattle.machine.specs.Machine.{Task, Next, Go, Turn, End, phaseOf, ends, advance}
 use Rattle.machine.specs.Kind.{kind, off}
-use Rattle.machine.specs.Run.{Config, Call, Served, start, firstPhase, answerOf, Step, serve, run, history}
+use Rattle.machine.specs.Run.{Config, Served, start, firstPhase, answerOf, serve, run, history}
+use Rattle.machine.specs.Calls.{Call, Step}
 use Rattle.machine.specs.History.{Pending, Nothing, Pends, longer, heard, pendingFrom, pending}
 use Rattle.machine.proofs.Update.{update-all}
 use Rattle.machine.proofs.Calls.{Serving, begins, begin-task, begin-operation, begin-pending, moves, step-task, step-idle, serving}

@@ -78,5 +78,9 @@ module _ (b : Object) where
     pub quiet : (t : ℕ) → Reads b (pendingOf (c .task t)) → Quiet (c .memory) t
     quiet t r = calm-quiet (c .memory) t (c .task t .operation) (c .task t .phase) (reads-calm (kind (c .task t .phase)) (c .task t .operation) (c .task t .steps) (operation-formed t) r) (safe .each t)
 
+    -- The task of an announcement that isn't empty.
+    pub announces-changing : (j : ℕ) → (content (c .memory) j ≡ Empty → ⊥) → (pendingOf (c .task j) ≡ Pends (c .task j .operation) (c .task j .steps)) × (b .changing (c .task j .operation) ≡ true)
+    announces-changing j f = works (kind (c .task j .phase)) (content (c .memory) j) _ _ (operation-formed j) (safe .each j .own) f
+
     pub holder-works : (q j r : ℕ) → headValue (c .memory) ≡ Held q j r → (pendingOf (c .task j) ≡ Pends (c .task j .operation) (c .task j .steps)) × (b .changing (c .task j .operation) ≡ true)
-    holder-works q j r e = works (kind (c .task j .phase)) (content (c .memory) j) _ _ (operation-formed j) (safe .each j .own) (λ z. (rw z at (safe .holder j q r e)))
+    holder-works q j r e = announces-changing j (λ z. (rw z at (safe .holder j q r e)))

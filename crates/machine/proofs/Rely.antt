@@ -4,7 +4,8 @@ use mathlib.Core.Bool.{true, false}
 use mathlib.Core.Logic.{_≢_}
 use Prim.Native.Nat.{ℕ}
 use native.Mathlib.Omega.{arith}
-use Rattle.machine.specs.Marks.{has, has-none, has-add-other, has-remove-other}
+use Rattle.cells.specs.Marks.{has}
+use Rattle.cells.proofs.MarkLaws.{has-none, has-add-other, has-remove-other}
 use Rattle.machine.specs.Object.{Object}
 use Rattle.machine.specs.Memory.{HeadValue, Free, Held, Content, Empty, Op, Resp, Cell, Memory, unmarked}
 use Rattle.machine.specs.Machine.{linked, released, cleared}

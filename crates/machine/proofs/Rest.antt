@@ -4,10 +4,11 @@ use mathlib.Core.Bool.{true}
 use mathlib.Core.List.{List}
 use mathlib.Core.Logic.{_↔_}
 use Prim.Native.Nat.{ℕ}
-use Rattle.machine.specs.Marks.{none-has}
-use Rattle.machine.specs.Object.{Object}
+use Rattle.cells.proofs.MarkLaws.{none-has}
+use Rattle.machine.specs.Object.{Object, Opens}
 use Rattle.machine.specs.Memory.{HeadValue, Free, Held, Memory, stateOf, image}
-use Rattle.machine.specs.Run.{Call, start, run, history}
+use Rattle.machine.specs.Run.{start, run, history}
+use Rattle.machine.specs.Calls.{Call}
 use Rattle.machine.specs.History.{Reads, Rest}
 use Rattle.machine.specs.Invariant.{headValue, HolderAnnounces}
 use Rattle.machine.proofs.Pending.{pendingOf, pending-is}
@@ -27,7 +28,7 @@ all-quiet m y g = λ i. record {
     free (Free q) e = refl
     free (Held q j r) e = absurd (rw (y j .empty) at (g j q r e))
 
-module _ (b : Object) (n q : ℕ) (good : b .good q ≡ true) (xs : List Call) where
+module _ (b : Object) (n q : ℕ) (good : Opens b q) (xs : List Call) where
   pub rest-image : Rest b (history b n xs (start q)) → run b n xs (start q) .memory ≡ image (bookOf b n q xs .state)
   rest-image r = all-quiet _ (λ t. quiet b n _ (s .safe) (s .formed) t (reads t)) (s .safe .holder) ∙ ap image (sym (s .related .state))
     where
@@ -38,7 +39,7 @@ module _ (b : Object) (n q : ℕ) (good : b .good q ≡ true) (xs : List Call) w
       reads t = rw (pending-is b n xs q t) at (r t)
 
 -- Two points of rest, of two lists and even of two objects: the cells are equal exactly if the states are.
-pub history-independent : (b b′ : Object) (n n′ q q′ : ℕ) → b .good q ≡ true → b′ .good q′ ≡ true → (xs xs′ : List Call)
+pub history-independent : (b b′ : Object) (n n′ q q′ : ℕ) → Opens b q → Opens b′ q′ → (xs xs′ : List Call)
     → Rest b (history b n xs (start q)) → Rest b′ (history b′ n′ xs′ (start q′))
     → (run b n xs (start q) .memory ≡ run b′ n′ xs′ (start q′) .memory) ↔ (bookOf b n q xs .state ≡ bookOf b′ n′ q′ xs′ .state)
 history-independent b b′ n n′ q q′ g g′ xs xs′ r r′ = (λ e. ap (λ (m : Memory). stateOf (headValue m)) (sym i ∙ e ∙ i′), λ e. i ∙ ap image e ∙ sym i′)

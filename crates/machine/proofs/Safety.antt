@@ -6,7 +6,8 @@ use Prim.Native.Nat.{ℕ}
 use Rattle.machine.specs.Object.{Object}
 use Rattle.machine.specs.Memory.{Memory}
 use Rattle.machine.specs.Machine.{Idle, Task, Next, Go, Turn, End, phaseOf, ends, advance}
-use Rattle.machine.specs.Run.{Config, Call, Served, start, firstPhase, begun, serve, run}
+use Rattle.machine.specs.Run.{Config, Served, start, firstPhase, begun, serve, run}
+use Rattle.machine.specs.Calls.{Call}
 use Rattle.machine.specs.Invariant.{TaskSafe, Safe}
 use Rattle.machine.proofs.Update.{update-all}
 use Rattle.machine.proofs.Effect.{Effect, effect, Allowed}

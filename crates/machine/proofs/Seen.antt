@@ -5,7 +5,8 @@ use mathlib.Core.Logic.{_≢_}
 use Prim.Native.Nat.{ℕ, _+_, _*_, _≤_}
 use native.Mathlib.Decide.{ℕ-discrete}
 use native.Mathlib.Omega.{arith}
-use Rattle.machine.specs.Marks.{has, add, remove, has-add, has-remove}
+use Rattle.cells.specs.Marks.{has, add, remove}
+use Rattle.cells.proofs.MarkLaws.{has-add, has-remove}
 use Rattle.machine.specs.Object.{Object}
 use Rattle.machine.specs.Memory.{Content, Empty, Op, Resp, Cell, Memory, unmarked, outcomeOf}
 use Rattle.machine.specs.Machine.{Phase, Poll, ClearHead, Next, phaseOf, turns, decided, released}

@@ -6,7 +6,8 @@ use mathlib.Core.Logic.{_≢_}
 use Prim.Native.Nat.{ℕ, _+_, _*_, _≤_, _<_}
 use native.Mathlib.Decide.{ℕ-discrete}
 use native.Mathlib.Omega.{arith}
-use Rattle.machine.specs.Marks.{has, has-none}
+use Rattle.cells.specs.Marks.{has}
+use Rattle.cells.proofs.MarkLaws.{has-none}
 use Rattle.machine.specs.Object.{Object}
 use Rattle.machine.specs.Memory.{HeadValue, Held, Content, Resp, Memory, unmarked}
 use Rattle.machine.specs.Machine.{Phase, Poll, Task, Next, phaseOf, turns, advance}

@@ -5,7 +5,7 @@ use Prim.Native.Nat.{ℕ, zero, suc, _+_, _*_, _≤_, _<_}
 use native.Mathlib.Decide.{ℕ-discrete, decLt}
 use native.Mathlib.Nat.{not-suc-le-zero}
 use native.Mathlib.Omega.{arith}
-use Rattle.machine.specs.Memory.{either}
+use Rattle.machine.specs.Update.{either}
 use Rattle.machine.specs.Potential.{sum, but}
 
 pub sum-le : (n : ℕ) (f g : ℕ → ℕ) → ((x : ℕ) → x < n → g x ≤ f x) → sum n g ≤ sum n f

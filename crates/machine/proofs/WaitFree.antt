@@ -6,10 +6,11 @@ use Prim.Native.Nat.{ℕ, suc, _+_, _*_, _≤_, _<_}
 use native.Mathlib.Decide.{ℕ-discrete}
 use native.Mathlib.Nat.{mul-add, mul-left-comm, mul-le-mul-left, mul-le-mul-right}
 use native.Mathlib.Omega.{arith}
-use Rattle.machine.specs.Object.{Object}
+use Rattle.machine.specs.Object.{Object, Opens}
 use Rattle.machine.specs.Machine.{Idle, Task, Next, Go, Turn, End, ends, advance}
 use Rattle.machine.specs.Kind.{Kind, Off, kind, off}
-use Rattle.machine.specs.Run.{Config, Call, Ended, Served, start, answerOf, begun, serve, run}
+use Rattle.machine.specs.Run.{Config, Served, start, answerOf, begun, serve, run}
+use Rattle.machine.specs.Calls.{Call, Ended}
 use Rattle.machine.specs.Invariant.{Safe}
 use Rattle.machine.specs.Form.{Formed}
 use Rattle.machine.specs.Potential.{bound, potential, Bounded}
@@ -115,7 +116,7 @@ module _ (b : Object) (n : ℕ) where
   bounded-from [] c s f w = w
   bounded-from (x ∷ xs) c s f w = bounded-from xs (serve b n x c .config) (safe-serve b n x c s) (formed-serve b n x c s f) (bounded-serving b n s f w (serving b n c x))
 
-  module _ (q : ℕ) (good : b .good q ≡ true) (xs : List Call) where
+  module _ (q : ℕ) (good : Opens b q) (xs : List Call) where
     -- After every list of calls, every operation's steps so far and its potential are within the bound.
     pub steps-bounded : Bounded n (run b n xs (start q))
     steps-bounded = bounded-from xs (start q) (safe-start q) (formed-start b n good) (λ t h. omega arith)

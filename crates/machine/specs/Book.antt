@@ -2,10 +2,9 @@
 use mathlib.Core.Path.{_≡_}
 use mathlib.Core.List.{List, [], _∷_, _++_}
 use Prim.Native.Nat.{ℕ, suc, _<_}
-use Rattle.refusal.specs.declared.Refusal.the-variants as cause
 use Rattle.machine.specs.Object.{Object}
-use Rattle.machine.specs.Memory.{update}
-use Rattle.machine.specs.Run.{Call, Begin, Step, Answer, Begun, Running, Ended, Refused, Event}
+use Rattle.machine.specs.Update.{update}
+use Rattle.machine.specs.Calls.{Call, Begin, Step, Answer, Begun, Running, Ended, Refused, Event}
 
 -- An operation that was begun: the place of its begin call in the list identifies it.
 pub record Operation : Type 0 where
@@ -53,14 +52,14 @@ pub data Entering (b : Object) : Book → Book → Type 0 where
 -- The rule by which the call at a place is booked with its answer, for n tasks.
 pub data Booking (b : Object) (n place : ℕ) (k : Book) : Call → Answer → Book → Type 0 where
   begun : {t o : ℕ} → t < n → o < b .operations → k .page t ≡ Idle → Booking b n place k (Begin t o) Begun (turned t (Waiting (record { place = place; task = t; operation = o }) 0) k)
-  begin-task : {t o : ℕ} → (t < n → ⊥) → Booking b n place k (Begin t o) (Refused cause.Task) k
-  begin-operation : {t o : ℕ} → t < n → (o < b .operations → ⊥) → Booking b n place k (Begin t o) (Refused cause.Operation) k
-  begin-pending : {t o : ℕ} → t < n → o < b .operations → (k .page t ≡ Idle → ⊥) → Booking b n place k (Begin t o) (Refused cause.Pending) k
+  begin-task : {t o : ℕ} → (t < n → ⊥) → Booking b n place k (Begin t o) (Refused 7) k
+  begin-operation : {t o : ℕ} → t < n → (o < b .operations → ⊥) → Booking b n place k (Begin t o) (Refused 8) k
+  begin-pending : {t o : ℕ} → t < n → o < b .operations → (k .page t ≡ Idle → ⊥) → Booking b n place k (Begin t o) (Refused 9) k
   running-waiting : {t s : ℕ} {x : Operation} → t < n → k .page t ≡ Waiting x s → Booking b n place k (Step t) Running (turned t (Waiting x (suc s)) k)
   running-done : {t r s : ℕ} → t < n → k .page t ≡ Done r s → Booking b n place k (Step t) Running (turned t (Done r (suc s)) k)
   ended : {t r s : ℕ} → t < n → k .page t ≡ Done r s → Booking b n place k (Step t) (Ended r (suc s)) (turned t Idle k)
-  step-task : {t : ℕ} → (t < n → ⊥) → Booking b n place k (Step t) (Refused cause.Task) k
-  step-idle : {t : ℕ} → t < n → k .page t ≡ Idle → Booking b n place k (Step t) (Refused cause.Idle) k
+  step-task : {t : ℕ} → (t < n → ⊥) → Booking b n place k (Step t) (Refused 7) k
+  step-idle : {t : ℕ} → t < n → k .page t ≡ Idle → Booking b n place k (Step t) (Refused 10) k
 
 -- A legal step of the book: entries of waiting tasks first, then the booking rule.
 pub record Legal (b : Object) (n place : ℕ) (e : Event) (k k′ : Book) : Type 0 where

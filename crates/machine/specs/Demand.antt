@@ -5,7 +5,7 @@ use mathlib.Core.List.{List, [], _∷_, _++_}
 use Prim.Native.Nat.{ℕ, suc, _<_}
 use lib.ListN.{length}
 use Rattle.machine.specs.Object.{Object}
-use Rattle.machine.specs.Run.{Call, Step, Answer, Begun, Running, Ended, Refused, Event}
+use Rattle.machine.specs.Calls.{Call, Step, Answer, Begun, Running, Ended, Refused, Event}
 use Rattle.machine.specs.Book.{Operation, Book, blank, Legal}
 use Rattle.machine.specs.History.{Pends, pending, Rest, Linearizes}
 
@@ -16,11 +16,11 @@ pub record Shown (C : Type 0) : Type 0 where
   pub cells : List Call → C
 
 -- A step's answer that is no refusal.
-abbrev pub Accepted : Answer → Type 0
-Accepted Begun = ⊥
-Accepted Running = Unit {0}
-Accepted (Ended r k) = Unit {0}
-Accepted (Refused r) = ⊥
+abbrev pub StepAccepted : Answer → Type 0
+StepAccepted Begun = ⊥
+StepAccepted Running = Unit {0}
+StepAccepted (Ended r k) = Unit {0}
+StepAccepted (Refused r) = ⊥
 
 -- A run of n tasks over an object from state q: what it shows agrees with the plain book, with Herlihy and Wing, with the
 -- image of a state at rest, and with a ceiling of own steps.
@@ -40,7 +40,7 @@ pub record Demand (b : Object) (n q ceiling : ℕ) {C : Type 0} (image : ℕ →
   -- At a point of rest the cells are the image of the book's state.
   pub rest : (xs : List Call) → Rest b (run .history xs) → run .cells xs ≡ image (book xs .state)
   -- While an operation is pending, its task's next step is accepted, and the own steps so far are below the ceiling.
-  pub accepted : (xs : List Call) (t o s : ℕ) → pending (run .history xs) t ≡ Pends o s → Accepted (run .answer xs (Step t))
+  pub accepted : (xs : List Call) (t o s : ℕ) → pending (run .history xs) t ≡ Pends o s → StepAccepted (run .answer xs (Step t))
   pub below : (xs : List Call) (t o s : ℕ) → pending (run .history xs) t ≡ Pends o s → s < ceiling
   -- The count that *ended* answers is that of the own steps since begin, this one counted; so it is at most the ceiling.
   pub count : (xs : List Call) (t o s r k : ℕ) → pending (run .history xs) t ≡ Pends o s → run .answer xs (Step t) ≡ Ended r k → k ≡ suc s

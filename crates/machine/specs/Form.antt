@@ -2,7 +2,7 @@
 use mathlib.Core.Path.{_≡_}
 use mathlib.Core.Bool.{true, false}
 use Prim.Native.Nat.{ℕ, _<_, _^_}
-use Rattle.machine.specs.Object.{Object}
+use Rattle.machine.specs.Object.{Object, Lawful}
 use Rattle.machine.specs.Memory.{HeadValue, Free, Held, Content, Empty, Op, Resp, Cell, Memory, unmarked}
 use Rattle.machine.specs.Machine.{Phase, Idle, ReadOnly, Announce, Poll, LoadHead, LinkHead, LoadPriority, LoadOwn, Apply, ReloadApply, LoadHelped, LinkHelped, Validate, HandOver, ReloadHandOver, Release, ReloadRelease, ClearHead, ReloadClear, LoadExit, LinkExit, ClearExit, ReleaseExit, Retract, Task}
 use Rattle.machine.specs.Kind.{Kind, Off, Reading, Opening, Looping, Exiting, Retracting, kind}
@@ -79,8 +79,9 @@ pub record TaskFormed (b : Object) (n : ℕ) (t : Task) : Type 0 where
   pub priority : t .priority < n
   pub operation : OperationFormed b (kind (t .phase)) (t .operation) (t .steps)
 
--- The configuration; from n on the records are never touched.
+-- The configuration, over an object whose laws hold; from n on the records are never touched.
 pub record Formed (b : Object) (n : ℕ) (c : Config) : Type 0 where
+  pub lawful : Lawful b
   pub memory : MemoryFormed b n (c .memory)
   pub task : (i : ℕ) → i < n → TaskFormed b n (c .task i)
   pub untouched : (i : ℕ) → (i < n → ⊥) → c .task i ≡ idleTask i

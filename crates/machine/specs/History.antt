@@ -5,7 +5,7 @@ use mathlib.Core.List.{List, [], _∷_}
 use Prim.Native.Nat.{ℕ, zero, suc, _<_}
 use lib.Dec.{eqb}
 use Rattle.machine.specs.Object.{Object}
-use Rattle.machine.specs.Run.{Call, Begin, Step, Answer, Begun, Running, Ended, Refused, Event}
+use Rattle.machine.specs.Calls.{Call, Begin, Step, Answer, Begun, Running, Ended, Refused, Event}
 use Rattle.machine.specs.Book.{Operation}
 
 -- ---- Pending operations and points of rest

@@ -1,5 +1,6 @@
-pub mod Marks
 pub mod Object
+pub mod Update
+pub mod Calls
 pub mod Memory
 pub mod Machine
 pub mod Kind
@@ -8,6 +9,7 @@ pub mod Book
 pub mod History
 pub mod Keeping
 pub mod Demand
+pub mod Ending
 pub mod Invariant
 pub mod Points
 pub mod Form

@@ -2,9 +2,10 @@
 use mathlib.Core.Bool.{Bool, true, false, cond}
 use Prim.Native.Nat.{ℕ, suc, _%_}
 use native.Mathlib.Decide.{ℕ-discrete}
-use Rattle.machine.specs.Marks.{has, add, remove}
+use Rattle.cells.specs.Marks.{has, add, remove}
 use Rattle.machine.specs.Object.{Object}
-use Rattle.machine.specs.Memory.{HeadValue, Free, Held, Content, Empty, Op, Resp, Cell, Memory, stateOf, outcomeOf, unmarked, either, update, head-dec, announcement-dec}
+use Rattle.machine.specs.Memory.{HeadValue, Free, Held, Content, Empty, Op, Resp, Cell, Memory, stateOf, outcomeOf, unmarked, head-dec, announcement-dec}
+use Rattle.machine.specs.Update.{either, update}
 
 -- Where a task is in its operation, with what it has saved: h a head, a an announcement, j the task that it works for,
 -- o an operation to apply, v the own response.

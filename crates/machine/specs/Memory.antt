@@ -43,15 +43,6 @@ unmarked v = record { value = v; marks = 0 }
 abbrev pub image : ℕ → Memory
 image q = record { head = unmarked (Free q); announcement = λ _. unmarked Empty }
 
--- The first of two by a decision.
-abbrev pub either : {A P : Type 0} → Dec P → A → A → A
-either (yes _) a b = a
-either (no _) a b = b
-
--- The function f with x at j.
-unfoldable pub update : {A : Type 0} → (ℕ → A) → ℕ → A → ℕ → A
-update f j x k = either (ℕ-discrete j k) x (f k)
-
 -- Equality of cells is decided: this is what a compare-and-swap tests.
 pub cell-dec : {A : Type 0} → ((x y : A) → Dec (x ≡ y)) → (a b : Cell A) → Dec (a ≡ b)
 cell-dec dec a b = go (dec (a .value) (b .value)) (ℕ-discrete (a .marks) (b .marks))

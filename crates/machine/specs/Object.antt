@@ -15,8 +15,16 @@ pub record Object : Type 0 where
   pub outcomes : ℕ
   -- The states that a run may be in.
   pub good : ℕ → Bool
+
+-- What the machine asks of an object.
+pub record Lawful (b : Object) : Type 0 where
   -- Operations lead from good states to good states, and their outcomes are within the bound.
-  pub closed : (q o : ℕ) → good q ≡ true → o < operations → good (next q o) ≡ true
-  pub bounded : (q o : ℕ) → good q ≡ true → o < operations → outcome q o < outcomes
+  pub closed : (q o : ℕ) → b .good q ≡ true → o < b .operations → b .good (b .next q o) ≡ true
+  pub bounded : (q o : ℕ) → b .good q ≡ true → o < b .operations → b .outcome q o < b .outcomes
   -- An operation that is not changing keeps every good state.
-  pub still : (q o : ℕ) → good q ≡ true → o < operations → changing o ≡ false → next q o ≡ q
+  pub still : (q o : ℕ) → b .good q ≡ true → o < b .operations → b .changing o ≡ false → b .next q o ≡ q
+
+-- A run may open in state q.
+pub record Opens (b : Object) (q : ℕ) : Type 0 where
+  pub lawful : Lawful b
+  pub good : b .good q ≡ true

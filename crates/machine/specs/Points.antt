@@ -6,10 +6,11 @@ use Prim.Native.Nat.{ℕ, suc}
 use Rattle.machine.specs.Object.{Object}
 use Rattle.machine.specs.Memory.{Held, Empty, Memory, stateOf, unmarked}
 use Rattle.machine.specs.Machine.{Access, ReadHead, WriteAnnouncement, plan}
-use Rattle.machine.specs.Run.{Config, Answer, Running, Ended, Event}
+use Rattle.machine.specs.Run.{Config}
+use Rattle.machine.specs.Calls.{Answer, Running, Ended, Event}
 use Rattle.machine.specs.Book.{Book}
 use Rattle.machine.specs.History.{Pends, pending, Reads, reached}
-use Rattle.machine.specs.Demand.{Accepted}
+use Rattle.machine.specs.Demand.{StepAccepted}
 use Rattle.machine.specs.Invariant.{inHead, inAnnouncement, headValue, content}
 
 -- Over the cells m, with the history es so far and the book k, from the start in state q.
@@ -25,13 +26,13 @@ pub record MidWork (b : Object) (q : ℕ) (m : Memory) (es : List Event) (k : Bo
   pub state : stateOf (headValue m) ≡ reached b q (k .order)
 
 -- The access of the next step of task t.
-abbrev pub accessOf : Object → ℕ → Config → Access
-accessOf b t c = plan b t (c .task t .priority) (c .task t .operation) (c .task t .phase)
+abbrev pub nextAccess : Object → ℕ → Config → Access
+nextAccess b t c = plan b t (c .task t .priority) (c .task t .operation) (c .task t .phase)
 
 -- The operation o of task t is pending after s own steps; its next step makes the access, answers, and leaves the cells m.
 -- The book's state before it is q.
 pub record NextStep (b : Object) (t o s q : ℕ) (access : Access) (answer : Answer) (m : Memory) : Type 0 where
-  pub accepted : Accepted answer
+  pub accepted : StepAccepted answer
   -- The count answered is the number of accepted steps since begin, this one counted.
   pub count : (r k : ℕ) → answer ≡ Ended r k → k ≡ suc s
   -- A reading operation ends in its first step, a read of the head.

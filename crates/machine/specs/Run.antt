@@ -1,12 +1,12 @@
--- Configurations, the calls begin and step with their answers, and lists of calls.
+-- The step machine as a whole: configurations, what begin and step do to them, and lists of calls.
 use mathlib.Core.Bool.{Bool, true, false, cond}
 use mathlib.Core.List.{List, [], _∷_}
 use Prim.Native.Nat.{ℕ, suc}
 use lib.Dec.{ltb}
-use Rattle.refusal.specs.declared.Refusal.{Refusal}
-use Rattle.refusal.specs.declared.Refusal.the-variants as cause
 use Rattle.machine.specs.Object.{Object}
-use Rattle.machine.specs.Memory.{Memory, image, update}
+use Rattle.machine.specs.Calls.{Call, Begin, Step, Answer, Begun, Running, Ended, Refused, Event}
+use Rattle.machine.specs.Memory.{Memory, image}
+use Rattle.machine.specs.Update.{update}
 use Rattle.machine.specs.Machine.{Phase, Idle, ReadOnly, Announce, Task, plan, result, perform, Next, Go, Turn, End, after, advance}
 use Rattle.machine.specs.Kind.{kind, off}
 
@@ -14,16 +14,6 @@ use Rattle.machine.specs.Kind.{kind, off}
 pub record Config : Type 0 where
   pub memory : Memory
   pub task : ℕ → Task
-
-pub data Call : Type 0 where
-  Begin : (task operation : ℕ) → Call
-  Step : (task : ℕ) → Call
-
--- Begin is accepted or refused; a step is running, ended with its response and the count of its own steps, or refused.
-pub data Answer : Type 0 where
-  Begun Running : Answer
-  Ended : (response steps : ℕ) → Answer
-  Refused : (reason : Refusal) → Answer
 
 -- What a call leaves, and what it answers.
 pub record Served : Type 0 where
@@ -39,8 +29,8 @@ abbrev pub start : ℕ → Config
 start q = record { memory = image q; task = idleTask }
 
 -- A refused call changes nothing.
-abbrev pub unserved : Config → Refusal → Served
-unserved c r = record { config = c; answer = Refused r }
+abbrev pub unserved : Config → ℕ → Served
+unserved c k = record { config = c; answer = Refused k }
 
 -- A changing operation begins with its announcement, a reading one with its only step.
 abbrev pub firstPhase : Bool → Phase
@@ -58,9 +48,9 @@ unfoldable pub begin : Object → (n i o : ℕ) → Config → Served
 begin b n i o c =
     cond (ltb i n)
     (cond (ltb o (b .operations))
-    (cond (off (kind (c .task i .phase))) (begun b i o c) (unserved c cause.Pending))
-    (unserved c cause.Operation))
-    (unserved c cause.Task)
+    (cond (off (kind (c .task i .phase))) (begun b i o c) (unserved c 9))
+    (unserved c 8))
+    (unserved c 7)
 
 -- What a step leads to: the access follows from the record, the rest from the record and the access's result.
 abbrev pub outcomeOfStep : Object → ℕ → Config → Next
@@ -84,7 +74,7 @@ stepped b n i c =
     }
 
 unfoldable pub step : Object → (n i : ℕ) → Config → Served
-step b n i c = cond (ltb i n) (cond (off (kind (c .task i .phase))) (unserved c cause.Idle) (stepped b n i c)) (unserved c cause.Task)
+step b n i c = cond (ltb i n) (cond (off (kind (c .task i .phase))) (unserved c 10) (stepped b n i c)) (unserved c 7)
 
 abbrev pub serve : Object → ℕ → Call → Config → Served
 serve b n (Begin i o) c = begin b n i o c
@@ -94,11 +84,6 @@ serve b n (Step i) c = step b n i c
 abbrev pub run : Object → ℕ → List Call → Config → Config
 run b n [] c = c
 run b n (x ∷ xs) c = run b n xs (serve b n x c .config)
-
--- A call with its answer.
-pub record Event : Type 0 where
-  pub call : Call
-  pub answer : Answer
 
 -- The history of a list of calls: each with its answer.
 abbrev pub history : Object → ℕ → List Call → Config → List Event

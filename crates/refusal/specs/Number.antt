@@ -1,4 +1,5 @@
--- Document 01, "When a call is not served": the number of each cause.
+-- Document 01, "When a call is not served": the number of each cause, and what an answer says on paper.
+use mathlib.Core.List.{List, []}
 use Prim.Native.Nat.{ℕ}
 use Rattle.refusal.specs.declared.Refusal.{Refusal}
 use Rattle.refusal.specs.declared.Refusal.the-variants.{File, Dimensions, Length, Entry, Row, Cells, Task, Operation, Pending, Idle, Record, Cell, Line}
@@ -18,3 +19,16 @@ numberOf Idle = 10
 numberOf Record = 11
 numberOf Cell = 12
 numberOf Line = 13
+
+-- What an answer says: a number, 0 if the call is accepted, and the values that come with it.
+pub record Said : Type 0 where
+  pub number : ℕ
+  pub values : List ℕ
+
+-- An accepted call says its values.
+abbrev pub accepted : List ℕ → Said
+accepted values = record { number = 0; values = values }
+
+-- A refused call says the number of its cause, and no value.
+abbrev pub refused : Refusal → Said
+refused c = record { number = numberOf c; values = [] }

@@ -1,6 +1,7 @@
 -- An access to encoded cells: the word that it touches, what it gives back and what it leaves.
 use mathlib.Core.Path.{_≡_, refl, ap, sym}
 use mathlib.Core.Bool.{true, cond}
+use mathlib.Core.Logic.{_↔_}
 use mathlib.Core.List.{List, _∷_}
 use Prim.Native.Nat.{ℕ, _+_, _<_, _≤_}
 use native.Mathlib.Numerals.{add-one}
@@ -9,18 +10,20 @@ use borrow.Author.Tests.{ne-eqb}
 use lib.Dec.{eqb}
 use lib.ListN.{length, getD, set}
 use lib.Seq.{set-getD}
-use Rattle.cells.specs.Layout.{marksWidth}
+use Rattle.cells.specs.Layout.{marksWidth, kindIn}
 use Rattle.table.specs.declared.Shape.{Shape}
 use Rattle.machine.specs.Object.{Object}
-use Rattle.machine.specs.Memory.{Cell, Content, Memory, either, update, head-dec, announcement-dec}
+use Rattle.machine.specs.Memory.{Cell, Content, Empty, Memory, head-dec, announcement-dec}
+use Rattle.machine.specs.Update.{either, update}
 use Rattle.machine.specs.Machine as machine
 use Rattle.machine.specs.Machine.{NoAccess, ReadHead, ReadAnnouncement, WriteAnnouncement, SwapHead, SwapAnnouncement, Nothing, HeadRead, AnnouncementRead, decided, result, perform}
+use Rattle.machine.specs.Invariant.{content}
 use Rattle.machine.specs.Form.{HeadFormed, AnnouncementFormed, MemoryFormed}
 use Rattle.transition.specs.declared.access.Found.the-variants.{Word}
 use Rattle.stepping.specs.Step.{touched, foundOf, performOf, cellInForm}
 use Rattle.transition.specs.Object.{ObjectTable, objectOf}
 use Rattle.transition.specs.Encoding.{encodeHead, encodeAnnouncement, encodeAccess, encodeResult}
-use Rattle.transition.proofs.EncodedCells.{head-same, head-in-form, announcement-same, announcement-in-form}
+use Rattle.transition.proofs.EncodedCells.{head-same, head-in-form, announcement-empty, announcement-same, announcement-in-form}
 use Rattle.stepping.specs.Encoding.{encodeCells}
 use Rattle.stepping.proofs.Tables.{tabulate-length, tabulate-at, tabulate-set}
 
@@ -43,7 +46,7 @@ module _ (n : ℕ) (m : Memory) where
 
 module _ (file : List ℕ) (shape : Shape) (table : ObjectTable file shape) (n : ℕ) (most : n ≤ marksWidth) where
   abbrev object : Object
-  object = objectOf file shape table
+  object = objectOf file shape
 
   -- The touched cell is one of the cells, and the word compared with is in range.
   abbrev pub AccessFormed : machine.Access → Type 0
@@ -58,6 +61,10 @@ module _ (file : List ℕ) (shape : Shape) (table : ObjectTable file shape) (n :
     -- The announcement of task j: what a swap compares, and its form.
     announcement-swap : (j : ℕ) (a : Cell Content) → j < n → AnnouncementFormed object n a → eqb (getD (encodeCells n m) (j + 1) 0) (encodeAnnouncement a) ≡ decided (announcement-dec (m .announcement j) a)
     announcement-swap j a below r = rw (cell-at n m j below) (announcement-same file shape table n most (m .announcement j) (ranged .announcement j) a r)
+
+    -- The kind in its cell is 0 exactly if it is empty.
+    pub encoded-empty : (j : ℕ) → j < n → (kindIn (getD (encodeCells n m) (j + 1) 0) ≡ 0) ↔ (content m j ≡ Empty)
+    encoded-empty j below = rw (cell-at n m j below) (announcement-empty file shape table n most (m .announcement j) (ranged .announcement j))
 
     announcement-touched : (j : ℕ) → j < n → cellInForm shape n (j + 1) (getD (encodeCells n m) (j + 1) 0) ≡ true
     unfolding cellInForm

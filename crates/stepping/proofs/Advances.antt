@@ -9,7 +9,7 @@ use Rattle.transition.specs.declared.access.Next.{Next}
 use Rattle.transition.specs.Encoding.{encodeTask}
 use Rattle.transition.proofs.Nexts.{Encodes, goes, turns, ends}
 use Rattle.stepping.specs.Step.{advanceOf, answerOf}
-use Rattle.stepping.specs.Encoding.{stepAnswer}
+use Rattle.stepping.specs.Call.{stepSaid}
 
 module _ (n : ℕ) (t : machine.Task) where
   pub advance-simulates : {y : machine.Next} {z : Next} → Encodes y z → advanceOf n (encodeTask t) z ≡ encodeTask (advance n t y)
@@ -17,7 +17,7 @@ module _ (n : ℕ) (t : machine.Task) where
   advance-simulates turns = rw (add-one (t .steps), add-one (t .priority))
   advance-simulates (ends v) = refl
 
-  pub answer-simulates : {y : machine.Next} {z : Next} → Encodes y z → stepAnswer (answerOf (encodeTask t) z) ≡ run.answerOf (t .steps) y
+  pub answer-simulates : {y : machine.Next} {z : Next} → Encodes y z → stepSaid (answerOf (encodeTask t) z) ≡ run.answerOf (t .steps) y
   answer-simulates (goes f) = refl
   answer-simulates turns = refl
   answer-simulates (ends v) = rw (add-one (t .steps))

@@ -1,129 +1,123 @@
--- A run of the calls: after an accepted start, cells, row and answers are the machine's, whatever the calls, and so
--- demands 2 and 3 are met.
+-- A run of the calls: after an opening, cells, row and answers are the machine's, whatever the calls, and so demands 2 and 3
+-- are met.
 use mathlib.Core.Path.{_≡_, ap, sym, _∙_}
-use mathlib.Core.Bool.{true}
-use mathlib.Core.List.{List}
-use Prim.Native.Nat.{ℕ, _≤_}
+use mathlib.Core.Logic.{_↔_}
+use mathlib.Core.List.{List, [], _∷_, _++_}
+use Prim.Native.Nat.{ℕ, _<_, _≤_}
 use native.Mathlib.Omega.{arith}
-use borrow.Author.Tests.{lt-ltb}
-use lib.ListN.{length}
-use Rattle.refusal.specs.declared.Refusal.{Refusal}
-use Rattle.refusal.specs.Number.{numberOf}
-use Rattle.cells.specs.Ceiling.{ceilingOf}
 use Rattle.cells.specs.Image as words
-use Rattle.cells.specs.declared.ceiling.Ceiling.the-variants.{Steps}
-use Rattle.cells.proofs.Ceilings.{ceiling-cubed}
-use Rattle.table.specs.declared.Shape.{Shape}
-use Rattle.table.proofs.Accepted.{accepted-fitting}
-use Rattle.machine.specs.Object.{Object}
-use Rattle.machine.specs.Memory.{image}
+use Rattle.machine.specs.Object.{Object, Opens}
+use Rattle.machine.specs.Memory.{Empty, image}
 use Rattle.machine.specs.Machine.{Next, Go, Turn, End}
-use Rattle.machine.specs.Run.{Config, Call, Refused, Served, answerOf, start, serve, run, history}
-use Rattle.machine.specs.Demand.{Shown, Demand}
-use Rattle.machine.proofs.Calls.{Serving, begins, begin-task, begin-operation, begin-pending, moves, step-task, step-idle, serving}
-use Rattle.machine.proofs.Demands.{machineShows, demand-ceiling}
-use Rattle.machine.proofs.Formed.{formed-run}
-use Rattle.machine.proofs.Update.{clash}
-use Rattle.machine.proofs.WaitFree.{bound-ceiling, pending-steps}
 use Rattle.machine.specs.Kind.{off}
-use Rattle.records.specs.declared.record.Task.{Task}
-use Rattle.stepping.specs.declared.call.StartAnswer.the-variants.{Started}
-use Rattle.stepping.specs.Call.{startOf, taskAt}
-use Rattle.transition.specs.Object.{ObjectTable, objectOf}
-use Rattle.stepping.specs.Encoding.{encodeCells}
-use Rattle.stepping.specs.Runs.{Outcome, startStore, serveOf, runOf, historyOf, shownBy, encodeConfig}
-use Rattle.stepping.proofs.Simulation.{ceiling, InRange, serve-simulates, run-simulates, history-simulates, access-simulates}
-use Rattle.stepping.proofs.Starts.{Starts, start-cells, start-simulates}
-use Rattle.stepping.specs.Statement.{accessOf}
-use Rattle.transition.specs.Encoding.{encodeAccess}
+use Rattle.machine.specs.Run.{Config, Served, answerOf, start, serve, run, history}
+use Rattle.machine.specs.Calls.{Call, Refused}
 use Rattle.machine.specs.History.{Pends, pending}
+use Rattle.machine.specs.Demand.{Shown, Demand}
+use Rattle.machine.specs.Ending.{EndsChanging}
+use Rattle.machine.specs.Invariant.{content}
+use Rattle.machine.specs.Points.{nextAccess}
+use Rattle.machine.specs.Potential.{bound}
+use Rattle.machine.proofs.Calls.{Serving, begins, begin-task, begin-operation, begin-pending, moves, step-task, step-idle, serving}
+use Rattle.machine.proofs.Demands.{machineShows, demand}
+use Rattle.machine.proofs.Emptied.{emptyings}
+use Rattle.machine.proofs.Formed.{formed-run}
 use Rattle.machine.proofs.OwnSteps.{own-record}
 use Rattle.machine.proofs.Pending.{pending-is}
-use Rattle.machine.specs.Points as machine
+use Rattle.machine.proofs.Update.{clash}
+use Rattle.machine.proofs.WaitFree.{bound-ceiling, pending-steps}
+use Rattle.transition.specs.Encoding.{encodeAccess}
+use Rattle.transition.proofs.Lawful.{object-lawful}
+use Rattle.stepping.specs.Access.{accessOf}
+use Rattle.stepping.specs.Runs.{Store, Outcome, serveOf, runOf, historyOf}
+use Rattle.stepping.specs.Opening.{Opening, objectIn, shown}
+use Rattle.stepping.specs.Statement.{DemandsWithin, recordAfter, EmptyAt, Emptied}
+use Rattle.stepping.specs.Encoding.{encodeCells, encodeConfig}
+use Rattle.stepping.proofs.Accesses.{encoded-empty}
+use Rattle.stepping.proofs.Simulation.{InRange, serve-simulates, run-simulates, history-simulates, access-simulates}
+use Rattle.stepping.proofs.Starts.{start-cells, start-row}
 
 -- Every list of calls leads from a good start state to a configuration in range.
-reached : (b : Object) (n q : ℕ) → 1 ≤ n → b .good q ≡ true → (xs : List Call) → InRange b n (run b n xs (start q))
+reached : (b : Object) (n q : ℕ) → 1 ≤ n → Opens b q → (xs : List Call) → InRange b n (run b n xs (start q))
 reached b n q some good xs = record {
   formed = formed-run b n xs good;
   timely = λ i below e. omega (arith, pending-steps b n q good xs i below (λ z. clash (ap off z) e), bound-ceiling n some);
 }
 
 -- The machine refuses with 7 to 10 alone.
-step-answers : (k : ℕ) (y : Next) (reason : Refusal) → answerOf k y ≡ Refused reason → ⊥
-step-answers k (Go f) reason e = let z : _≡_ {A = ℕ} 0 1 = cc in omega arith
-step-answers k (Turn f) reason e = let z : _≡_ {A = ℕ} 0 1 = cc in omega arith
-step-answers k (End v) reason e = let z : _≡_ {A = ℕ} 0 1 = cc in omega arith
+step-answers : (k : ℕ) (y : Next) (number : ℕ) → answerOf k y ≡ Refused number → ⊥
+step-answers k (Go f) number e = let z : _≡_ {A = ℕ} 0 1 = cc in omega arith
+step-answers k (Turn f) number e = let z : _≡_ {A = ℕ} 0 1 = cc in omega arith
+step-answers k (End v) number e = let z : _≡_ {A = ℕ} 0 1 = cc in omega arith
 
-same-refusal : {a b : Refusal} → Refused a ≡ Refused b → numberOf a ≡ numberOf b
-same-refusal {a} {b} e = let same : a ≡ b = cc in ap numberOf same
+within : {j k : ℕ} → Refused j ≡ Refused k → 7 ≤ j → j ≤ 10 → (7 ≤ k) × (k ≤ 10)
+within {j} {k} e low high = let same : j ≡ k = cc in (omega arith, omega arith)
 
-refuses : {b : Object} {n : ℕ} {c : Config} {x : Call} {z : Served} → Serving b n c x z → (reason : Refusal) → z .answer ≡ Refused reason → (7 ≤ numberOf reason) × (numberOf reason ≤ 10)
-refuses (begins h k d) reason e = absurd (let z : _≡_ {A = ℕ} 0 1 = cc in omega arith)
-refuses (begin-task h) reason e = omega (arith, same-refusal e)
-refuses (begin-operation h k) reason e = omega (arith, same-refusal e)
-refuses (begin-pending h k d) reason e = omega (arith, same-refusal e)
-refuses {c = c} (moves {i = i} {y = y} h d v) reason e = absurd (step-answers (c .task i .steps) y reason e)
-refuses (step-task h) reason e = omega (arith, same-refusal e)
-refuses (step-idle h d) reason e = omega (arith, same-refusal e)
+refuses : {b : Object} {n : ℕ} {c : Config} {x : Call} {z : Served} → Serving b n c x z → (k : ℕ) → z .answer ≡ Refused k → (7 ≤ k) × (k ≤ 10)
+refuses (begins h k d) number e = absurd (let z : _≡_ {A = ℕ} 0 1 = cc in omega arith)
+refuses (begin-task h) number e = within e (omega arith) (omega arith)
+refuses (begin-operation h k) number e = within e (omega arith) (omega arith)
+refuses (begin-pending h k d) number e = within e (omega arith) (omega arith)
+refuses {c = c} (moves {i = i} {y = y} h d v) number e = absurd (step-answers (c .task i .steps) y number e)
+refuses (step-task h) number e = within e (omega arith) (omega arith)
+refuses (step-idle h d) number e = within e (omega arith) (omega arith)
 
--- An accepted start with a table.
-module _ (file : List ℕ) (shape : Shape) (table : ObjectTable file shape) (cells : List ℕ) (row : List Task) (accepted : startOf file cells row .answer ≡ Started) where
-  starts : Starts file cells row
-  starts = start-simulates file cells row accepted
-
-  abbrev n : ℕ
-  n = length row
-
+-- After an opening.
+module _ {file : List ℕ} {n q : ℕ} {s : Store} (o : Opening file n q s) where
   abbrev machineRun : List Call → Config
-  machineRun xs = run (objectOf file shape table) n xs (start (shape .start))
+  machineRun xs = run (objectIn o) n xs (start q)
 
-  pub good : objectOf file shape table .good (shape .start) ≡ true
-  good = lt-ltb _ _ (accepted-fitting file shape (table .accepted) .start-below)
+  pub opens : Opens (objectIn o) q
+  opens = record { lawful = object-lawful (o .table); good = o .good }
 
-  in-range : (xs : List Call) → InRange (objectOf file shape table) n (machineRun xs)
-  in-range = reached (objectOf file shape table) n (shape .start) (starts .some) good
+  in-range : (xs : List Call) → InRange (objectIn o) n (run (objectIn o) n xs (start q))
+  in-range = reached (objectIn o) n q (o .some) opens
 
-  first-store : startStore file cells row ≡ encodeConfig n (start (shape .start))
-  first-store = let same : starts .shape ≡ shape = cc (starts .accepted, table .accepted) in rw (← same) (starts .store)
+  first-store : s ≡ encodeConfig n (start q)
+  first-store k = record { cells = (o .cells ∙ start-cells n q) k; row = (o .row ∙ start-row n) k }
 
   -- The cells and the row after any list of calls, the calls with their answers, and the next answer are the machine's.
   module _ (xs : List Call) where
-    pub run-started : runOf file xs (startStore file cells row) ≡ encodeConfig (length row) (run (objectOf file shape table) (length row) xs (start (shape .start)))
-    run-started = rw first-store (run-simulates file shape table n (starts .some) (starts .most) xs (start (shape .start)) in-range)
+    pub run-opened : runOf file xs s ≡ encodeConfig n (run (objectIn o) n xs (start q))
+    run-opened = rw first-store (run-simulates file (o .shape) (o .table) n (o .some) (o .few) xs (start q) in-range)
 
-    pub history-started : historyOf file xs (startStore file cells row) ≡ history (objectOf file shape table) (length row) xs (start (shape .start))
-    history-started = rw first-store (history-simulates file shape table n (starts .some) (starts .most) xs (start (shape .start)) in-range)
+    pub history-opened : historyOf file xs s ≡ history (objectIn o) n xs (start q)
+    history-opened = rw first-store (history-simulates file (o .shape) (o .table) n (o .some) (o .few) xs (start q) in-range)
 
-    pub answer-started : (x : Call) → serveOf file x (runOf file xs (startStore file cells row)) .answer ≡ serve (objectOf file shape table) (length row) x (run (objectOf file shape table) (length row) xs (start (shape .start))) .answer
-    answer-started x = rw run-started (ap (λ (out : Outcome). out .answer) (serve-simulates file shape table n (starts .some) (starts .most) x (machineRun xs) (in-range xs)))
+    pub answer-opened : (x : Call) → serveOf file x (runOf file xs s) .answer ≡ serve (objectIn o) n x (run (objectIn o) n xs (start q)) .answer
+    answer-opened x = rw run-opened (ap (λ (out : Outcome). out .answer) (serve-simulates file (o .shape) (o .table) n (o .some) (o .few) x (machineRun xs) (in-range xs)))
 
     -- The access of a pending task's next step is the machine's.
-    pub access-started : (t o s : ℕ) → pending (history (objectOf file shape table) (length row) xs (start (shape .start))) t ≡ Pends o s
-        → accessOf file (length row) t (taskAt (runOf file xs (startStore file cells row) .row) t) ≡ encodeAccess (machine.accessOf (objectOf file shape table) t (run (objectOf file shape table) (length row) xs (start (shape .start))))
-    access-started t o s e =
-        let r = own-record (objectOf file shape table) n (machineRun xs) (in-range xs .formed) t o s (sym (pending-is (objectOf file shape table) n xs (shape .start) t) ∙ e) in
-        rw run-started (access-simulates file shape table n (starts .some) (starts .most) (machineRun xs) (in-range xs) t (r .below) (r .works))
+    pub access-opened : (t x k : ℕ) → pending (history (objectIn o) n xs (start q)) t ≡ Pends x k
+        → accessOf file n t (recordAfter o xs t) ≡ encodeAccess (nextAccess (objectIn o) t (run (objectIn o) n xs (start q)))
+    access-opened t x k e =
+        let r = own-record (objectIn o) n (machineRun xs) (in-range xs .formed) t x k (sym (pending-is (objectIn o) n xs q t) ∙ e) in
+        rw run-opened (access-simulates file (o .shape) (o .table) n (o .some) (o .few) (machineRun xs) (in-range xs) t (r .below) (r .works))
 
     -- A begin or a step of a run is refused with 7 to 10 alone: 4, 11 and 12 never occur.
-    pub refused-started : (x : Call) (reason : Refusal) → serveOf file x (runOf file xs (startStore file cells row)) .answer ≡ Refused reason → (7 ≤ numberOf reason) × (numberOf reason ≤ 10)
-    refused-started x reason e = refuses (serving (objectOf file shape table) n (machineRun xs) x) reason (sym (answer-started x) ∙ e)
+    pub refused-opened : (x : Call) (k : ℕ) → serveOf file x (runOf file xs s) .answer ≡ Refused k → (7 ≤ k) × (k ≤ 10)
+    refused-opened x k e = refuses (serving (objectIn o) n (machineRun xs) x) k (sym (answer-opened x) ∙ e)
+
+    -- The announcements in the cells are those of the machine.
+    announcement-opened : (t : ℕ) → t < n → EmptyAt (runOf file xs s .cells) t ↔ (content (machineRun xs .memory) t ≡ Empty)
+    announcement-opened t below = rw run-opened (encoded-empty file (o .shape) (o .table) n (o .few) (machineRun xs .memory) (in-range xs .formed .memory) t below)
 
   -- What the machine shows, with its cells as words.
   abbrev encodedShows : Shown (List ℕ)
   encodedShows = record {
-    answer = λ xs x. serve (objectOf file shape table) n x (machineRun xs) .answer;
-    history = λ xs. history (objectOf file shape table) n xs (start (shape .start));
+    answer = λ xs x. serve (objectIn o) n x (machineRun xs) .answer;
+    history = λ xs. history (objectIn o) n xs (start q);
     cells = λ xs. encodeCells n (machineRun xs .memory);
   }
 
-  shown-same : shownBy file (startStore file cells row) ≡ encodedShows
+  shown-same : shown o ≡ encodedShows
   shown-same k = record {
-    answer = λ xs x. answer-started xs x k;
-    history = λ xs. history-started xs k;
-    cells = λ xs. run-started xs k .cells;
+    answer = λ xs x. answer-opened xs x k;
+    history = λ xs. history-opened xs k;
+    cells = λ xs. run-opened xs k .cells;
   }
 
-  encoded-demands : (c : ℕ) → Demand (objectOf file shape table) n (shape .start) c image (machineShows (objectOf file shape table) n (shape .start)) → Demand (objectOf file shape table) n (shape .start) c (words.image n) encodedShows
+  encoded-demands : (c : ℕ) → Demand (objectIn o) n q c image (machineShows (objectIn o) n q) → Demand (objectIn o) n q c (words.image n) encodedShows
   encoded-demands c d = record {
     begins = d .begins;
     told = d .told;
@@ -138,8 +132,41 @@ module _ (file : List ℕ) (shape : Shape) (table : ObjectTable file shape) (cel
     count = d .count;
   }
 
-  -- Demands 2 and 3, with the ceiling of document 01's table.
-  pub demands : (c : ℕ) → ceilingOf (length row) ≡ Steps c → Demand (objectOf file shape table) (length row) (shape .start) c (words.image (length row)) (shownBy file (startStore file cells row))
-  demands c e =
-      let same : ceiling n ≡ c = cc (ceiling-cubed n (starts .some) (starts .most)) in
-      rw (shown-same, ← same) (encoded-demands (ceiling n) (demand-ceiling (objectOf file shape table) n (shape .start) good (starts .some)))
+  -- Demands 2 and 3, with any bound that the proved one doesn't pass.
+  pub demands : (c : ℕ) → bound n ≤ c → DemandsWithin c o
+  demands c h = rw shown-same (encoded-demands c (demand (objectIn o) n q opens c h))
+
+  -- The step that empties an announcement ends its operation, and no other does.
+  pub emptied : Emptied o
+  emptied xs x t below =
+      let (only, every) = emptyings (objectIn o) n q opens xs x t below in
+      let (empty, none) = announcement-opened xs t below in
+      let (empty-after, none-after) = announcement-opened (xs ++ (x ∷ [])) t below in (
+        λ (f, g). moved (only ((λ z. f (none z)), empty-after g)),
+        λ e. let (f, g) = every (back e) in ((λ z. f (empty z)), none-after g),
+      )
+    where
+      -- What the calls show of an ending step is what the machine shows.
+      moved : EndsChanging (objectIn o) (machineShows (objectIn o) n q) xs x t → EndsChanging (objectIn o) (shown o) xs x t
+      moved e = record {
+        operation = e .operation;
+        steps = e .steps;
+        response = e .response;
+        count = e .count;
+        step = e .step;
+        pends = ap (λ es. pending es t) (history-opened xs) ∙ e .pends;
+        changes = e .changes;
+        ended = answer-opened xs x ∙ e .ended;
+      }
+
+      back : EndsChanging (objectIn o) (shown o) xs x t → EndsChanging (objectIn o) (machineShows (objectIn o) n q) xs x t
+      back e = record {
+        operation = e .operation;
+        steps = e .steps;
+        response = e .response;
+        count = e .count;
+        step = e .step;
+        pends = ap (λ es. pending es t) (sym (history-opened xs)) ∙ e .pends;
+        changes = e .changes;
+        ended = sym (answer-opened xs x) ∙ e .ended;
+      }

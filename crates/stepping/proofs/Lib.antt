@@ -4,6 +4,7 @@ pub mod Ready
 pub mod Parts
 pub mod Refused
 pub mod Local
+pub mod Rule
 pub mod Tables
 pub mod Records
 pub mod Accesses
@@ -13,3 +14,4 @@ pub mod Simulation
 pub mod Starts
 pub mod Demands
 pub mod Theorem
+pub mod Cases

@@ -23,7 +23,7 @@ use Rattle.stepping.proofs.Accesses.{AccessFormed}
 
 module _ (file : List ℕ) (shape : Shape) (table : ObjectTable file shape) (n : ℕ) (most : n ≤ marksWidth) (i p x s : ℕ) (below : i < n) where
   abbrev object : Object
-  object = objectOf file shape table
+  object = objectOf file shape
 
   -- It is in range.
   pub plan-formed : (f : machine.Phase) → off (kind f) ≡ false → p < n → PhaseFormed object n f → AccessFormed file shape table n most (plan object i p x f)

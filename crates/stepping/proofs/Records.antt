@@ -46,7 +46,7 @@ either-holds false e = refl
 
 module _ (file : List ℕ) (shape : Shape) (table : ObjectTable file shape) (n : ℕ) (some : 1 ≤ n) (most : n ≤ marksWidth) where
   abbrev object : Object
-  object = objectOf file shape table
+  object = objectOf file shape
 
   abbrev HeadRanged : Cell HeadValue → Type 0
   HeadRanged h = HeadFormed object n h

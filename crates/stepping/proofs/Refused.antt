@@ -31,7 +31,7 @@ use Rattle.stepping.specs.Call.{withRow, admitOf, Started, refuseStart, 
 use Rattle.stepping.proofs.Lists.{set-held}
 
 -- What holds of both sides of a choice holds of the choice.
-choice : {A : Type 0} (P : A → Type 0) (b : Bool) (x y : A) → P x → P y → P (cond b x y)
+pub choice : {A : Type 0} (P : A → Type 0) (b : Bool) (x y : A) → P x → P y → P (cond b x y)
 choice P true x y p q = p
 choice P false x y p q = q
 

@@ -9,6 +9,7 @@ use lib.ListN.{length, set}
 use lib.Seq.{set-getD}
 use Rattle.refusal.specs.declared.Refusal.{Refusal}
 use Rattle.refusal.specs.declared.Refusal.the-variants as cause
+use Rattle.refusal.specs.Number.{numberOf}
 use Rattle.cells.specs.Layout.{marksWidth}
 use Rattle.cells.proofs.Ceilings.{ceiling-cubed}
 use Rattle.table.specs.declared.Shape.{Shape}
@@ -19,7 +20,8 @@ use Rattle.machine.specs.Memory.{Memory}
 use Rattle.machine.specs.Machine as machine
 use Rattle.machine.specs.Machine.{plan, result, perform, advance}
 use Rattle.machine.specs.Kind.{kind, off}
-use Rattle.machine.specs.Run.{Config, Call, Begin, Step, Event, firstPhase, unserved, outcomeOfStep, stepped, step, begun, begin, serve, run, history}
+use Rattle.machine.specs.Run.{Config, firstPhase, unserved, outcomeOfStep, stepped, step, begun, begin, serve, run, history}
+use Rattle.machine.specs.Calls.{Call, Begin, Step, Event}
 use Rattle.machine.specs.Form.{Formed}
 use Rattle.records.specs.declared.record.Task.{Task}
 use Rattle.records.specs.declared.phase.Phase.the-variants as phase
@@ -35,15 +37,15 @@ use Rattle.transition.specs.Encoding.{kept, encodeTask, encodeAccess, encodeRes
 use Rattle.transition.proofs.Plans.{plan-simulates}
 use Rattle.transition.proofs.Nexts.{next-simulates}
 use Rattle.stepping.specs.Step.{advanceOf, answerOf}
-use Rattle.stepping.specs.Call.{admitOf, Stepped, refuseStep, stepFrom, stepTask, stepOf, begunTask, refuseBegin, beginFrom, beginTask, beginOf, taskAt}
-use Rattle.stepping.specs.Encoding.{encodeCells, encodeRow, stepAnswer, beginAnswer}
-use Rattle.stepping.specs.Runs.{serveOf, runOf, historyOf, encodeConfig, encodeServed}
+use Rattle.stepping.specs.Call.{admitOf, Stepped, refuseStep, stepFrom, stepTask, stepOf, begunTask, refuseBegin, beginFrom, beginTask, beginOf, taskAt, stepSaid, beginSaid}
+use Rattle.stepping.specs.Encoding.{encodeCells, encodeRow, encodeConfig, encodeServed}
+use Rattle.stepping.specs.Runs.{serveOf, runOf, historyOf}
 use Rattle.stepping.proofs.Tables.{tabulate-length, tabulate-at, tabulate-set}
 use Rattle.stepping.proofs.Records.{pending-read, pending-number, idle-kept, idle-read}
 use Rattle.stepping.proofs.Accesses.{cells-length, touched-in-form, result-simulates, perform-simulates}
 use Rattle.stepping.proofs.Planned.{plan-formed, entry-in-range}
 use Rattle.stepping.proofs.Advances.{advance-simulates, answer-simulates}
-use Rattle.stepping.specs.Statement.{accessOf as wordAccess}
+use Rattle.stepping.specs.Access.{accessOf as wordAccess}
 
 -- The ceiling of own steps with n tasks.
 abbrev pub ceiling : ℕ → ℕ
@@ -61,7 +63,7 @@ begun-encoded o p false = refl
 
 module _ (file : List ℕ) (shape : Shape) (table : ObjectTable file shape) (n : ℕ) (some : 1 ≤ n) (most : n ≤ marksWidth) where
   abbrev object : Object
-  object = objectOf file shape table
+  object = objectOf file shape
 
   -- The tests that all calls share are passed.
   admits : admitOf file n ≡ admitted.Accepted (ceiling n) shape
@@ -82,18 +84,18 @@ module _ (file : List ℕ) (shape : Shape) (table : ObjectTable file shape) (n :
     task-at below = tabulate-at n (λ k. encodeTask (c .task k)) (idleTask 0) i below
 
     -- A step of the row is the step of its task; a refused one leaves the row.
-    step-store : (out : Stepped) → stepTask file (encodeCells n (c .memory)) n i (taskAt (encodeRow n (c .task)) i) ≡ out → serveOf file (Step i) (encodeConfig n c) ≡ record { store = record { cells = out .cells; row = set (encodeRow n (c .task)) i (out .task) }; answer = stepAnswer (out .answer) }
+    step-store : (out : Stepped) → stepTask file (encodeCells n (c .memory)) n i (taskAt (encodeRow n (c .task)) i) ≡ out → serveOf file (Step i) (encodeConfig n c) ≡ record { store = record { cells = out .cells; row = set (encodeRow n (c .task)) i (out .task) }; answer = stepSaid (out .answer) }
     unfolding stepOf
     step-store out e = rw (row-length, e)
 
-    step-refused : (reason : Refusal) → stepTask file (encodeCells n (c .memory)) n i (taskAt (encodeRow n (c .task)) i) ≡ refuseStep (encodeCells n (c .memory)) (taskAt (encodeRow n (c .task)) i) reason → serveOf file (Step i) (encodeConfig n c) ≡ encodeServed n (unserved c reason)
+    step-refused : (reason : Refusal) → stepTask file (encodeCells n (c .memory)) n i (taskAt (encodeRow n (c .task)) i) ≡ refuseStep (encodeCells n (c .memory)) (taskAt (encodeRow n (c .task)) i) reason → serveOf file (Step i) (encodeConfig n c) ≡ encodeServed n (unserved c (numberOf reason))
     step-refused reason e = step-store (refuseStep (encodeCells n (c .memory)) (taskAt (encodeRow n (c .task)) i) reason) e ∙ rw (set-getD (encodeRow n (c .task)) i (idleTask 0))
 
     -- By the task's number, and by whether it is idle.
-    step-unknown : ltb i n ≡ false → serveOf file (Step i) (encodeConfig n c) ≡ encodeServed n (unserved c cause.Task)
+    step-unknown : ltb i n ≡ false → serveOf file (Step i) (encodeConfig n c) ≡ encodeServed n (unserved c 7)
     step-unknown e = step-refused cause.Task (step-task (c .memory) i (taskAt (encodeRow n (c .task)) i) ∙ rw e)
 
-    step-idle : i < n → off (kind (c .task i .phase)) ≡ true → serveOf file (Step i) (encodeConfig n c) ≡ encodeServed n (unserved c cause.Idle)
+    step-idle : i < n → off (kind (c .task i .phase)) ≡ true → serveOf file (Step i) (encodeConfig n c) ≡ encodeServed n (unserved c 10)
     step-idle below e =
         let t = range .formed .task i below in
         step-refused cause.Idle
@@ -147,24 +149,24 @@ module _ (file : List ℕ) (shape : Shape) (table : ObjectTable file shape) (n :
       unfolding beginTask
       begin-task t = rw admits
 
-      begin-store : (out : declared.Begin) → beginTask file n i o (taskAt (encodeRow n (c .task)) i) ≡ out → serveOf file (Begin i o) (encodeConfig n c) ≡ record { store = record { cells = encodeCells n (c .memory); row = set (encodeRow n (c .task)) i (out .task) }; answer = beginAnswer (out .answer) }
+      begin-store : (out : declared.Begin) → beginTask file n i o (taskAt (encodeRow n (c .task)) i) ≡ out → serveOf file (Begin i o) (encodeConfig n c) ≡ record { store = record { cells = encodeCells n (c .memory); row = set (encodeRow n (c .task)) i (out .task) }; answer = beginSaid (out .answer) }
       unfolding beginOf
       begin-store out e = rw (row-length, e)
 
-      begin-refused : (reason : Refusal) → beginTask file n i o (taskAt (encodeRow n (c .task)) i) ≡ refuseBegin (taskAt (encodeRow n (c .task)) i) reason → serveOf file (Begin i o) (encodeConfig n c) ≡ encodeServed n (unserved c reason)
+      begin-refused : (reason : Refusal) → beginTask file n i o (taskAt (encodeRow n (c .task)) i) ≡ refuseBegin (taskAt (encodeRow n (c .task)) i) reason → serveOf file (Begin i o) (encodeConfig n c) ≡ encodeServed n (unserved c (numberOf reason))
       begin-refused reason e = begin-store (refuseBegin (taskAt (encodeRow n (c .task)) i) reason) e ∙ rw (set-getD (encodeRow n (c .task)) i (idleTask 0))
 
-      begin-unknown : ltb i n ≡ false → serveOf file (Begin i o) (encodeConfig n c) ≡ encodeServed n (unserved c cause.Task)
+      begin-unknown : ltb i n ≡ false → serveOf file (Begin i o) (encodeConfig n c) ≡ encodeServed n (unserved c 7)
       begin-unknown e = begin-refused cause.Task (begin-task (taskAt (encodeRow n (c .task)) i) ∙ rw e)
 
-      begin-operation : i < n → ltb o (shape .operations) ≡ false → serveOf file (Begin i o) (encodeConfig n c) ≡ encodeServed n (unserved c cause.Operation)
+      begin-operation : i < n → ltb o (shape .operations) ≡ false → serveOf file (Begin i o) (encodeConfig n c) ≡ encodeServed n (unserved c 8)
       begin-operation below e = begin-refused cause.Operation (begin-task (taskAt (encodeRow n (c .task)) i) ∙ rw (lt-ltb i n below, e))
 
       module _ (below : i < n) (known : o < shape .operations) where
         begin-known : (t : Task) → beginTask file n i o t ≡ beginFrom file shape o t (readRecord shape n (ceiling n) t)
         begin-known t = begin-task t ∙ rw (lt-ltb i n below, lt-ltb o (shape .operations) known, accepted-operation file shape (table .accepted) o known)
 
-        begin-pending : off (kind (c .task i .phase)) ≡ false → serveOf file (Begin i o) (encodeConfig n c) ≡ encodeServed n (unserved c cause.Pending)
+        begin-pending : off (kind (c .task i .phase)) ≡ false → serveOf file (Begin i o) (encodeConfig n c) ≡ encodeServed n (unserved c 9)
         begin-pending e =
             let t = range .formed .task i below in
             begin-refused cause.Pending

@@ -1,31 +1,33 @@
--- An accepted start: what was tested, and that cells and row are those of the machine's start.
+-- A start: when it is accepted, and that its cells and row are those of the machine's start.
 use mathlib.Core.Path.{_≡_, refl, ap, _∙_}
 use mathlib.Core.Bool.{Bool, true, false}
 use mathlib.Core.List.{List, [], _∷_, _++_}
 use Prim.Native.Nat.{ℕ, zero, suc, _+_, _≤_}
 use native.Mathlib.Omega.{arith}
-use borrow.Author.Tests.{eqb-true}
+use borrow.Author.Tests.{eqb-true, eq-eqb, lt-ltb}
 use lib.Dec.{eqb}
 use lib.ListN.{length}
 use Rattle.cells.specs.Ceiling.{ceilingOf}
 use Rattle.cells.specs.Image as cells
-use Rattle.cells.specs.Layout.{marksWidth}
 use Rattle.cells.specs.declared.ceiling.Ceiling.{Ceiling}
 use Rattle.cells.specs.declared.ceiling.Ceiling.the-variants as ceiling
+use Rattle.cells.proofs.Ceilings.{ceiling-cubed}
 use Rattle.cells.proofs.Images.{image-words}
 use Rattle.table.specs.declared.Shape.{Shape}
 use Rattle.table.specs.declared.Checked.{Checked}
 use Rattle.table.specs.declared.Checked.the-variants as table
+use Rattle.table.specs.File.{shapeOf}
 use Rattle.table.specs.Check.{checkOf}
+use Rattle.table.proofs.Accepted.{accepted-fitting}
 use Rattle.machine.specs.Memory.{image}
 use Rattle.machine.specs.Run as run
-use Rattle.machine.specs.Run.{start}
 use Rattle.records.specs.declared.record.Task.{Task}
+use Rattle.stepping.specs.declared.call.Start.{Start}
 use Rattle.stepping.specs.declared.call.StartAnswer.the-variants as answer
-use Rattle.stepping.specs.Call.{withRow, idleRow, startOf, filled, withCells, admitStartOf}
+use Rattle.stepping.specs.Call.{withRow, idleRow, startOf, withCells, admitStartOf}
+use Rattle.stepping.specs.Opening.{Startable, StartOpens}
 use Rattle.transition.specs.Encoding.{encodeTask}
 use Rattle.stepping.specs.Encoding.{tabulate, encodeCells, encodeRow}
-use Rattle.stepping.specs.Runs.{startStore, encodeConfig}
 use Rattle.stepping.proofs.Admission.{ceiling-ranges}
 use Rattle.stepping.proofs.Tables.{tabulate-replicate}
 
@@ -33,42 +35,64 @@ use Rattle.stepping.proofs.Tables.{tabulate-replicate}
 pub start-cells : (n q : ℕ) → cells.image n q ≡ encodeCells n (image q)
 start-cells n q = image-words n q ∙ rw (tabulate-replicate n)
 
-start-row : (n : ℕ) → idleRow n ≡ encodeRow n run.idleTask
+pub start-row : (n : ℕ) → idleRow n ≡ encodeRow n run.idleTask
 unfolding idleRow tabulate
 start-row zero = refl
 start-row (suc n) = ap (λ (l : List Task). l ++ (encodeTask (run.idleTask n) ∷ [])) (start-row n)
 
--- What an accepted start has found and made.
-pub record Starts (file cells : List ℕ) (row : List Task) : Type 0 where
-  pub shape : Shape
-  pub accepted : checkOf file ≡ table.Accepted shape
-  pub some : 1 ≤ length row
-  pub most : length row ≤ marksWidth
-  pub long : length cells ≡ length row + 1
-  pub store : startStore file cells row ≡ encodeConfig (length row) (start (shape .start))
+-- ---- Start is accepted exactly if the table is, there are 1 to 8 records, and there is one cell more
 
-pub start-simulates : (file cells : List ℕ) (row : List Task) → startOf file cells row .answer ≡ answer.Started → Starts file cells row
-unfolding startOf admitStartOf
-start-simulates file cells row a = checked (checkOf file) refl a
-  where
-    n : ℕ
-    n = length row
+module _ (file cells : List ℕ) (row : List Task) where
+  -- What an accepted start has found.
+  record Found : Type 0 where
+    shape : Shape
+    accepted : checkOf file ≡ table.Accepted shape
+    some : 1 ≤ length row
+    few : length row ≤ 8
+    long : length cells ≡ length row + 1
 
-    counted : (shape : Shape) (c : ℕ) → checkOf file ≡ table.Accepted shape → ceilingOf n ≡ ceiling.Steps c → (b : Bool) → eqb (length cells) (n + 1) ≡ b → filled cells row (withCells (length cells) n (withRow n (checkOf file))) .answer ≡ answer.Started → Starts file cells row
-    counted shape c e d true l s = record {
-      shape = shape;
-      accepted = e;
-      some = ceiling-ranges n c d .some;
-      most = ceiling-ranges n c d .few;
-      long = eqb-true (length cells) (n + 1) l;
-      store = rw (e, d, l, start-cells n (shape .start), start-row n);
-    }
-    counted shape c e d false l s = absurd (let f = rw (e, d, l) at s in let z : _≡_ {A = ℕ} 0 1 = cc f in omega arith)
+  started : Found → admitStartOf file (length cells) (length row) ≡ record { granted = true; state = shapeOf file .start; answer = answer.Started }
+  unfolding admitStartOf
+  started f =
+      rw (f .accepted, ceiling-cubed (length row) (f .some) (f .few), eq-eqb (length cells) (length row + 1) (f .long))
+      (ap (λ (x : Shape). record { granted = true; state = x .start; answer = answer.Started }) (accepted-fitting file (f .shape) (f .accepted) .shape-is))
 
-    limited : (shape : Shape) → checkOf file ≡ table.Accepted shape → (d : Ceiling) → ceilingOf n ≡ d → filled cells row (withCells (length cells) n (withRow n (checkOf file))) .answer ≡ answer.Started → Starts file cells row
-    limited shape e (ceiling.Steps c) d s = counted shape c e d (eqb (length cells) (n + 1)) refl s
-    limited shape e (ceiling.Refused r) d s = absurd (let f = rw (e, d) at s in let z : _≡_ {A = ℕ} 0 1 = cc f in omega arith)
+  found : startOf file cells row .answer ≡ answer.Started → Found
+  unfolding startOf admitStartOf
+  found a = checked (checkOf file) refl a
+    where
+      counted : (shape : Shape) (c : ℕ) → checkOf file ≡ table.Accepted shape → ceilingOf (length row) ≡ ceiling.Steps c → (b : Bool) → eqb (length cells) (length row + 1) ≡ b → withCells (length cells) (length row) (withRow (length row) (checkOf file)) .answer ≡ answer.Started → Found
+      counted shape c e d true l s = record { shape = shape; accepted = e; some = ceiling-ranges (length row) c d .some; few = ceiling-ranges (length row) c d .few; long = eqb-true (length cells) (length row + 1) l }
+      counted shape c e d false l s = absurd (let f = rw (e, d, l) at s in let z : _≡_ {A = ℕ} 0 1 = cc f in omega arith)
 
-    checked : (k : Checked) → checkOf file ≡ k → filled cells row (withCells (length cells) n (withRow n (checkOf file))) .answer ≡ answer.Started → Starts file cells row
-    checked (table.Accepted shape) e s = limited shape e (ceilingOf n) refl s
-    checked (table.Refused r) e s = absurd (let f = rw e at s in let z : _≡_ {A = ℕ} 0 1 = cc f in omega arith)
+      limited : (shape : Shape) → checkOf file ≡ table.Accepted shape → (d : Ceiling) → ceilingOf (length row) ≡ d → withCells (length cells) (length row) (withRow (length row) (checkOf file)) .answer ≡ answer.Started → Found
+      limited shape e (ceiling.Steps c) d s = counted shape c e d (eqb (length cells) (length row + 1)) refl s
+      limited shape e (ceiling.Refused r) d s = absurd (let f = rw (e, d) at s in let z : _≡_ {A = ℕ} 0 1 = cc f in omega arith)
+
+      checked : (k : Checked) → checkOf file ≡ k → withCells (length cells) (length row) (withRow (length row) (checkOf file)) .answer ≡ answer.Started → Found
+      checked (table.Accepted shape) e s = limited shape e (ceilingOf (length row)) refl s
+      checked (table.Refused r) e s = absurd (let f = rw e at s in let z : _≡_ {A = ℕ} 0 1 = cc f in omega arith)
+
+  pub startable : Startable file cells row
+  unfolding startOf
+  startable = (
+    λ a. let f = found a in ((f .shape, f .accepted), f .some, f .few, f .long),
+    λ (t, some, few, long). ap (λ x. x .answer) (started (record { shape = t .0; accepted = t .1; some = some; few = few; long = long })),
+  )
+
+  -- Of a file of bytes it opens a run in the table's start state.
+  pub accepted-start : StartOpens file cells row
+  unfolding startOf
+  accepted-start bytes a =
+      let f = found a in
+      let e = started f in
+      let fits = accepted-fitting file (f .shape) (f .accepted) in
+      record {
+        shape = f .shape;
+        table = record { bytes = bytes; accepted = f .accepted };
+        some = f .some;
+        few = f .few;
+        good = rw (← fits .shape-is) (lt-ltb _ _ (fits .start-below));
+        cells = rw e refl;
+        row = rw e refl;
+      }

@@ -6,7 +6,7 @@ use native.Mathlib.Decide.{ℕ-discrete}
 use native.Mathlib.Omega.{arith}
 use lib.ListN.{length, getD, set, replicate, length-append, length-set, length-replicate, getD-replicate, List·getD-append}
 use lib.Seq.{getD-set-same, getD-set-other, getD-at, ext-getD}
-use Rattle.machine.specs.Memory.{update}
+use Rattle.machine.specs.Update.{update}
 use Rattle.machine.proofs.Update.{update-all}
 use Rattle.stepping.specs.Encoding.{tabulate}
 

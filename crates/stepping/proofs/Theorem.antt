@@ -1,22 +1,40 @@
--- The theorems about start, begin and step: a proof of each statement of specs/Statement.antt.
+-- The theorems about start, begin and step: a proof of each statement of specs/Access.antt, specs/Opening.antt and
+-- specs/Statement.antt.
 use mathlib.Core.Path.{_≡_, ap, sym, _∙_}
 use mathlib.Core.List.{List}
-use Prim.Native.Nat.{ℕ}
-use lib.ListN.{length}
+use Prim.Native.Nat.{ℕ, _+_, _*_}
+use native.Mathlib.Omega.{arith}
 use Rattle.cells.specs.Field.{pack}
 use Rattle.cells.specs.Image.{image}
 use Rattle.cells.specs.Layout.{announcementWord}
 use Rattle.cells.proofs.Images.{image-injective}
 use Rattle.machine.specs.Object.{Object}
-use Rattle.machine.specs.Run.{Call, Step, Event, history, start}
+use Rattle.machine.specs.Run.{history, start}
+use Rattle.machine.specs.Calls.{Call, Step}
 use Rattle.machine.specs.History.{Pends, pending}
 use Rattle.machine.specs.Demand.{Shown, Demand}
 use Rattle.machine.proofs.OwnSteps.{next-step}
+use Rattle.machine.proofs.WaitFree.{bound-ceiling}
 use Rattle.records.specs.declared.record.Task.{Task}
-use Rattle.stepping.specs.Statement.{Local, OneCell, Accepted, Demands, Refusals, Independent, Endings, objectIn}
 use Rattle.transition.specs.Encoding.{encodeAccess}
-use Rattle.stepping.proofs.Demands.{demands, refused-started, history-started, answer-started, access-started, good}
+use Rattle.stepping.specs.Call.{stepOf}
+use Rattle.stepping.specs.Access.{MakesAccess, FollowsResult, Local, OneCell}
+use Rattle.stepping.specs.Runs.{Store}
+use Rattle.stepping.specs.Opening.{Opening, objectIn, Startable, StartOpens}
+use Rattle.stepping.specs.Statement.{Demands, SharperDemands, Independent, Refusals, Endings, Emptied}
+use Rattle.stepping.proofs.Demands.{opens, history-opened, answer-opened, access-opened, refused-opened, demands, emptied}
 use Rattle.stepping.proofs.Local.{step-local, step-elsewhere}
+use Rattle.stepping.proofs.Rule.{makes-access, follows-result}
+use Rattle.stepping.proofs.Starts.{startable, accepted-start}
+
+-- ---- The access rule
+
+-- A step makes the access that was planned, and follows from what it gave back.
+pub access-made : (file cells : List ℕ) (n i : ℕ) (t : Task) → MakesAccess file cells n i t
+access-made = makes-access
+
+pub result-followed : (file cells others : List ℕ) (n i : ℕ) (t : Task) → FollowsResult file cells others n i t
+result-followed = follows-result
 
 -- A step looks at one cell, and touches no other.
 pub looks-at-one-cell : (file cells others : List ℕ) (n i : ℕ) (t : Task) → Local file cells others n i t
@@ -25,31 +43,41 @@ looks-at-one-cell file cells others n i t long e = step-local file cells others 
 pub touches-one-cell : (file cells : List ℕ) (n i : ℕ) (t : Task) → OneCell file cells n i t
 touches-one-cell file cells n i t = step-elsewhere file cells n i t
 
-module _ {file cells : List ℕ} {row : List Task} (a : Accepted file cells row) where
-  pub demands-met : Demands a
-  demands-met c e = demands file (a .shape) (a .table) cells row (a .started) c e
+-- ---- Start
 
-  pub refusals-known : Refusals a
-  refusals-known xs x reason e = refused-started file (a .shape) (a .table) cells row (a .started) xs x reason e
+pub start-accepted : (file cells : List ℕ) (row : List Task) → Startable file cells row
+start-accepted = startable
 
-  pub endings-known : Endings a
+pub start-opens : (file cells : List ℕ) (row : List Task) → StartOpens file cells row
+start-opens = accepted-start
+
+-- ---- Runs
+
+module _ {file : List ℕ} {n q : ℕ} {s : Store} (o : Opening file n q s) where
+  pub demands-met : Demands o
+  demands-met = demands o (1000 * (n * n * n)) (bound-ceiling n (o .some))
+
+  pub sharper-demands-met : SharperDemands o
+  sharper-demands-met = demands o (n * n * (16 * n + 47) + 98 * n + 32) (omega arith)
+
+  pub refusals-known : Refusals o
+  refusals-known xs x k e = refused-opened o xs x k e
+
+  pub emptied-known : Emptied o
+  emptied-known = emptied o
+
+  pub endings-known : Endings o
   unfolding announcementWord pack
-  endings-known xs t o s e =
-      let b = objectIn a in
-      let n = length row in
-      let q = a .shape .start in
-      let g = good file (a .shape) (a .table) cells row (a .started) in
-      let p : pending (machine-history xs) t ≡ Pends o s = ap (λ es. pending es t) (sym (history-started file (a .shape) (a .table) cells row (a .started) xs)) ∙ e in
-      let z = next-step b n q g xs t o s p in
-      let same = answer-started file (a .shape) (a .table) cells row (a .started) xs (Step t) in
-      let access = access-started file (a .shape) (a .table) cells row (a .started) xs t o s p in
+  endings-known xs t x k e =
+      let b = objectIn o in
+      let p : pending (history b n xs (start q)) t ≡ Pends x k = ap (λ es. pending es t) (sym (history-opened o xs)) ∙ e in
+      let z = next-step b n q (opens o) xs t x k p in
+      let same = answer-opened o xs (Step t) in
+      let access = access-opened o xs t x k p in
       record {
         reading = λ reads. (access ∙ ap encodeAccess (z .reading reads .0), (_, same ∙ z .reading reads .1));
-        ending = λ changes r k answered. access ∙ ap encodeAccess (z .ending changes r k (sym same ∙ answered));
+        ending = λ changes r c answered. access ∙ ap encodeAccess (z .ending changes r c (sym same ∙ answered));
       }
-    where
-      machine-history : List Call → List Event
-      machine-history ys = history (objectIn a) (length row) ys (start (a .shape .start))
 
 -- Equal cells at rest tell equal states, and the other way round.
 pub independent : (b b′ : Object) (n q q′ c c′ : ℕ) (run run′ : Shown (List ℕ)) (d : Demand b n q c (image n) run) (d′ : Demand b′ n q′ c′ (image n) run′) → Independent b b′ n q q′ c c′ run run′ d d′

@@ -7,7 +7,7 @@ use lib.Dec.{eqb, ltb}
 use lib.ListN.{length, getD, set}
 use Rattle.refusal.specs.declared.Refusal.{Refusal}
 use Rattle.refusal.specs.declared.Refusal.the-variants as cause
-use Rattle.refusal.specs.Number.{numberOf}
+use Rattle.refusal.specs.Number.{numberOf, Said, accepted, refused}
 use Rattle.cells.specs.Image.{image}
 use Rattle.cells.specs.Ceiling.{ceilingOf}
 use Rattle.cells.specs.declared.ceiling.Ceiling.{Ceiling}
@@ -23,6 +23,7 @@ use Rattle.records.specs.declared.phase.Phase.{Phase}
 use Rattle.records.specs.declared.phase.Phase.the-variants as phase
 use Rattle.records.specs.declared.phase.PhaseRead.{PhaseRead}
 use Rattle.records.specs.declared.phase.PhaseRead.the-variants as record-phase
+use Rattle.machine.specs.Calls as paper
 use Rattle.transition.specs.declared.access.Access.{Access}
 use Rattle.stepping.specs.declared.call.Answer.{Answer}
 use Rattle.stepping.specs.declared.call.Answer.the-variants as step
@@ -39,20 +40,21 @@ use Rattle.records.specs.Record.{idleTask, readRecord}
 use Rattle.transition.specs.Transition.{planOf, usedInRange, nextOf}
 use Rattle.stepping.specs.Step.{touched, foundOf, performOf, cellInForm, advanceOf, answerOf}
 
--- ---- The answers' numbers: 0 if the call is accepted
+-- ---- What the answers say: document 01's number and values for each case
 
-abbrev pub startNumber : StartAnswer → ℕ
-startNumber start.Started = 0
-startNumber (start.Refused c) = numberOf c
+abbrev pub startSaid : StartAnswer → Said
+startSaid start.Started = accepted []
+startSaid (start.Refused c) = refused c
 
-abbrev pub beginNumber : BeginAnswer → ℕ
-beginNumber begin.Begun = 0
-beginNumber (begin.Refused c) = numberOf c
+-- The answers of begin and step are those that the plain book is fed.
+abbrev pub beginSaid : BeginAnswer → paper.Answer
+beginSaid begin.Begun = paper.Begun
+beginSaid (begin.Refused c) = paper.Refused (numberOf c)
 
-abbrev pub stepNumber : Answer → ℕ
-stepNumber step.Running = 0
-stepNumber (step.Ended r k) = 0
-stepNumber (step.Refused c) = numberOf c
+abbrev pub stepSaid : Answer → paper.Answer
+stepSaid step.Running = paper.Running
+stepSaid (step.Ended r k) = paper.Ended r k
+stepSaid (step.Refused c) = paper.Refused (numberOf c)
 
 -- ---- Tests that calls share
 

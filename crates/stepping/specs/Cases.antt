@@ -1,32 +1,25 @@
 -- Document 01, "Cases": every marked case, as one table about the definitions. Those of the object file stand in the crate table.
 use Prim.Native.Nat.{ℕ}
-use mathlib.Core.Path.{_≡_, refl, sym, _∙_, ap₂}
 use mathlib.Core.Bool.{Bool, cond}
-use mathlib.Core.List.{List, [], _∷_, _++_, map, map-append}
+use mathlib.Core.List.{List, [], _∷_, _++_}
 use lib.ListN.{length, getD, replicate}
 use Rattle.cells.specs.Ceiling.{ceilingOf}
 use Rattle.cells.specs.declared.ceiling.Ceiling.{Ceiling}
 use Rattle.cells.specs.declared.ceiling.Ceiling.the-variants.{Steps, Refused}
-use Rattle.cells.specs.Field.{pack, unpack, total}
-use Rattle.cells.specs.Form.{marksInForm, inForm, headFieldsInForm, headInForm}
+use Rattle.cells.specs.Form.{headInForm}
 use Rattle.cells.specs.Image.{image}
 use Rattle.cells.specs.Layout.{headWord}
 use Rattle.cells.specs.declared.head.Head.the-variants.{Held}
-use Rattle.table.specs.Below.{allBelow}
 use Rattle.table.specs.Cases.{Case, flag}
 use Rattle.table.specs.Cases as file
-use Rattle.table.specs.Check.{checkOf}
-use Rattle.table.specs.Entries.{entryOf, entryInRange, operationInRange, entriesInRange}
-use Rattle.table.specs.File.{endsInMark, shapeOf}
-use Rattle.table.specs.Layout.{fileFits, dimensionsFit, lengthFits, layoutOf}
-use Rattle.stepping.specs.Call.{admitStartOf, startOf, startNumber, idleRow}
+use Rattle.stepping.specs.Call.{startOf, startSaid, idleRow}
 
 abbrev case : ℕ → ℕ → Case
 case given said = record { given = given; said = said }
 
 -- The number that start answers for the flag object with this many records, and one cell more.
 abbrev started : ℕ → ℕ
-started n = startNumber (startOf flag (replicate n 0 ++ (0 ∷ [])) (idleRow n) .answer)
+started n = startSaid (startOf flag (replicate n 0 ++ (0 ∷ [])) (idleRow n) .answer) .number
 
 -- 1 for yes, 0 for no.
 abbrev yes-no : Bool → ℕ
@@ -37,7 +30,7 @@ abbrev steps : Ceiling → ℕ
 steps (Steps c) = c
 steps (Refused reason) = 0
 
-callCases : List Case
+unfoldable pub callCases : List Case
 callCases =
     -- 8 records pass, 9 do not.
     case (started 8) 0
@@ -55,13 +48,5 @@ callCases =
     ∷ []
 
 -- All marked cases.
-pub cases : List Case
+unfoldable pub cases : List Case
 cases = file.cases ++ callCases
-
-calls-hold : map (λ c. c .given) callCases ≡ map (λ c. c .said) callCases
-unfolding callCases image headInForm inForm marksInForm headFieldsInForm headWord pack unpack total ceilingOf startOf admitStartOf idleRow flag checkOf layoutOf fileFits dimensionsFit lengthFits entriesInRange operationInRange entryInRange entryOf endsInMark shapeOf allBelow
-calls-hold = refl
-
-pub cases-hold : map (λ c. c .given) cases ≡ map (λ c. c .said) cases
-unfolding cases
-cases-hold = map-append _ file.cases callCases ∙ ap₂ (λ xs ys. xs ++ ys) file.cases-hold calls-hold ∙ sym (map-append _ file.cases callCases)

@@ -1,16 +1,12 @@
--- How a configuration of the step machine stands in cells and a row of records, and what the answers say.
+-- How a configuration of the step machine stands in cells and a row of records.
 use mathlib.Core.List.{List, [], _∷_, _++_}
 use Prim.Native.Nat.{ℕ, zero, suc}
 use Rattle.machine.specs.Memory.{Memory}
 use Rattle.machine.specs.Machine as machine
-use Rattle.machine.specs.Run.{Begun, Running, Ended, Refused}
-use Rattle.machine.specs.Run as run
+use Rattle.machine.specs.Run.{Config, Served}
 use Rattle.records.specs.declared.record.Task.{Task}
 use Rattle.transition.specs.Encoding.{encodeHead, encodeAnnouncement, encodeTask}
-use Rattle.stepping.specs.declared.call.Answer.{Answer}
-use Rattle.stepping.specs.declared.call.Answer.the-variants as step
-use Rattle.stepping.specs.declared.call.BeginAnswer.{BeginAnswer}
-use Rattle.stepping.specs.declared.call.BeginAnswer.the-variants as begin
+use Rattle.stepping.specs.Runs.{Store, Outcome}
 
 -- The values of a function at the numbers below n, in order.
 unfoldable pub tabulate : {A : Type 0} → ℕ → (ℕ → A) → List A
@@ -25,14 +21,10 @@ encodeCells n m = encodeHead (m .head) ∷ tabulate n (λ j. encodeAnnouncement 
 abbrev pub encodeRow : ℕ → (ℕ → machine.Task) → List Task
 encodeRow n tasks = tabulate n (λ i. encodeTask (tasks i))
 
--- ---- Answers
+-- The cells and the row of a configuration of n tasks.
+abbrev pub encodeConfig : ℕ → Config → Store
+encodeConfig n c = record { cells = encodeCells n (c .memory); row = encodeRow n (c .task) }
 
--- What the answers of begin and step say.
-abbrev pub beginAnswer : BeginAnswer → run.Answer
-beginAnswer begin.Begun = Begun
-beginAnswer (begin.Refused c) = Refused c
-
-abbrev pub stepAnswer : Answer → run.Answer
-stepAnswer step.Running = Running
-stepAnswer (step.Ended r k) = Ended r k
-stepAnswer (step.Refused c) = Refused c
+-- What a call leaves of a configuration, and its answer.
+abbrev pub encodeServed : ℕ → Served → Outcome
+encodeServed n r = record { store = encodeConfig n (r .config); answer = r .answer }

@@ -1,6 +1,8 @@
 pub mod Step
 pub mod Call
-pub mod Encoding
+pub mod Access
 pub mod Runs
+pub mod Opening
 pub mod Statement
 pub mod Cases
+pub mod Encoding

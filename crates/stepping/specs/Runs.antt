@@ -1,20 +1,15 @@
 -- Runs of the calls on cells and records, with their histories.
 use mathlib.Core.List.{List, [], _∷_}
 use Prim.Native.Nat.{ℕ}
-use Rattle.machine.specs.Run.{Config, Call, Begin, Step, Answer, Served, Event}
+use Rattle.machine.specs.Calls.{Call, Begin, Step, Answer, Event}
 use Rattle.machine.specs.Demand.{Shown}
 use Rattle.records.specs.declared.record.Task.{Task}
-use Rattle.stepping.specs.Call.{startOf, beginOf, stepOf}
-use Rattle.stepping.specs.Encoding.{encodeCells, encodeRow, beginAnswer, stepAnswer}
+use Rattle.stepping.specs.Call.{beginOf, stepOf, beginSaid, stepSaid}
 
 -- What the calls of a run hand on: the cells and the row.
 pub record Store : Type 0 where
   pub cells : List ℕ
   pub row : List Task
-
--- What a call of start leaves.
-abbrev pub startStore : List ℕ → List ℕ → List Task → Store
-startStore file cells row = record { cells = startOf file cells row .cells; row = startOf file cells row .row }
 
 -- What a call leaves, and what it answers.
 pub record Outcome : Type 0 where
@@ -25,10 +20,10 @@ pub record Outcome : Type 0 where
 abbrev pub serveOf : List ℕ → Call → Store → Outcome
 serveOf file (Begin i o) s =
     let out = beginOf file (s .row) i o in
-    record { store = record { cells = s .cells; row = out .row }; answer = beginAnswer (out .answer) }
+    record { store = record { cells = s .cells; row = out .row }; answer = beginSaid (out .answer) }
 serveOf file (Step i) s =
     let out = stepOf file (s .cells) (s .row) i in
-    record { store = record { cells = out .cells; row = out .row }; answer = stepAnswer (out .answer) }
+    record { store = record { cells = out .cells; row = out .row }; answer = stepSaid (out .answer) }
 
 -- The cells and the row after a list of calls.
 abbrev pub runOf : List ℕ → List Call → Store → Store
@@ -47,13 +42,3 @@ shownBy file s = record {
   history = λ xs. historyOf file xs s;
   cells = λ xs. runOf file xs s .cells;
 }
-
--- ---- Configurations of the machine
-
--- The cells and the row of a configuration of n tasks.
-abbrev pub encodeConfig : ℕ → Config → Store
-encodeConfig n c = record { cells = encodeCells n (c .memory); row = encodeRow n (c .task) }
-
--- What a call leaves of a configuration, and its answer.
-abbrev pub encodeServed : ℕ → Served → Outcome
-encodeServed n r = record { store = encodeConfig n (r .config); answer = r .answer }

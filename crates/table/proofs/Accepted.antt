@@ -8,16 +8,12 @@ use Rattle.refusal.specs.declared.Refusal.the-variants.{Entry}
 use Rattle.table.specs.declared.Shape.{Shape}
 use Rattle.table.specs.declared.Checked.{Checked}
 use Rattle.table.specs.declared.Checked.the-variants.{Accepted, Refused}
-use Rattle.table.specs.Below.{all-at}
-use Rattle.table.specs.File.{byteAt}
+use Rattle.table.proofs.Below.{all-at}
+use Rattle.table.specs.File.{Bytes}
 use Rattle.table.specs.Entries.{entryOf, entryInRange, operationInRange, entriesInRange}
 use Rattle.table.specs.Layout.{layoutOf}
 use Rattle.table.specs.Check.{withEntries, checkOf}
 use Rattle.table.proofs.Fitting.{Fitting, layout-fitting, taken, refused}
-
--- Every element of the list is a byte.
-abbrev pub Bytes : List ℕ → Type 0
-Bytes file = (at : ℕ) → byteAt file at < 256
 
 module _ (file : List ℕ) (shape : Shape) where
   -- One tested entry: its next state is one of the table's states.

@@ -1,15 +1,12 @@
 -- Document 01, "Cases": the marked cases about the object file. The table of all marked cases, which needs later definitions,
 -- is that of the crate stepping.
 use Prim.Native.Nat.{ℕ, _*_, _/_, _%_}
-use mathlib.Core.Path.{_≡_, refl}
 use mathlib.Core.Bool.{cond}
-use mathlib.Core.List.{List, [], _∷_, _++_, map}
+use mathlib.Core.List.{List, [], _∷_, _++_}
 use lib.ListN.{replicate, drop, set}
-use Rattle.table.specs.Below.{allBelow, anyBelow}
-use Rattle.table.specs.File.{endsInMark, shapeOf}
-use Rattle.table.specs.Entries.{entryOf, entryInRange, operationInRange, entriesInRange, changing}
-use Rattle.table.specs.Layout.{fileFits, dimensionsFit, lengthFits, layoutOf}
-use Rattle.table.specs.Check.{checkOf, numberOfChecked}
+use Rattle.table.specs.File.{shapeOf}
+use Rattle.table.specs.Entries.{changing}
+use Rattle.table.specs.Check.{checkOf, checkSaid}
 
 -- The flag object's entries.
 abbrev flagEntries : List ℕ
@@ -25,16 +22,16 @@ unfoldable pub flag : List ℕ
 flag = flagEntries ++ flagTrailer
 
 -- A file of so many states and operations in which every entry is 0.
-blank : ℕ → ℕ → List ℕ
+unfoldable pub blank : ℕ → ℕ → List ℕ
 blank states operations =
     replicate (2 * states * operations) 0 ++ set (set (set flagTrailer 4 (states % 256)) 5 (states / 256)) 6 operations
 
 -- The number that check answers.
-number : List ℕ → ℕ
-number file = numberOfChecked (checkOf file)
+unfoldable pub number : List ℕ → ℕ
+number file = checkSaid (checkOf file) .number
 
 -- 1 if an operation of a file is changing, 0 if it is reading.
-changes : List ℕ → ℕ → ℕ
+unfoldable pub changes : List ℕ → ℕ → ℕ
 changes file operation = cond (changing file (shapeOf file) operation) 1 0
 
 -- A case: what the definitions give, and what the document says.
@@ -42,10 +39,10 @@ pub record Case : Type 0 where
   pub given : ℕ
   pub said : ℕ
 
-case : ℕ → ℕ → Case
+unfoldable pub case : ℕ → ℕ → Case
 case given said = record { given = given; said = said }
 
-pub cases : List Case
+unfoldable pub cases : List Case
 cases =
     -- A file of 15 bytes.
     case (number (drop 13 flag)) 1
@@ -64,7 +61,3 @@ cases =
     ∷ case (changes flag 2) 1
     ∷ case (changes flag 0) 0
     ∷ []
-
-pub cases-hold : map (λ c. c .given) cases ≡ map (λ c. c .said) cases
-unfolding cases case flag blank number changes checkOf layoutOf fileFits dimensionsFit lengthFits entriesInRange operationInRange entryInRange entryOf changing endsInMark shapeOf allBelow anyBelow
-cases-hold = refl

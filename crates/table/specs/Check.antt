@@ -1,9 +1,9 @@
--- Document 01, "When a call is not served": what the test of a whole table answers, and the answer's number.
+-- Document 01, "When a call is not served": what the test of a whole table answers, and what the answer says.
 use mathlib.Core.Bool.{cond}
-use mathlib.Core.List.{List}
+use mathlib.Core.List.{List, [], _∷_}
 use Prim.Native.Nat.{ℕ}
 use Rattle.refusal.specs.declared.Refusal.the-variants.{Entry}
-use Rattle.refusal.specs.Number.{numberOf}
+use Rattle.refusal.specs.Number.{Said, accepted, refused}
 use Rattle.table.specs.declared.Checked.{Checked}
 use Rattle.table.specs.declared.Checked.the-variants.{Accepted, Refused}
 use Rattle.table.specs.Entries.{entriesInRange}
@@ -18,7 +18,7 @@ withEntries file (Refused cause) = Refused cause
 unfoldable pub checkOf : List ℕ → Checked
 checkOf file = withEntries file (layoutOf file)
 
--- The document's number of an answer, 0 if the table is accepted.
-abbrev pub numberOfChecked : Checked → ℕ
-numberOfChecked (Accepted shape) = 0
-numberOfChecked (Refused cause) = numberOf cause
+-- What an answer says: states, operations and start state, or the number of the cause.
+abbrev pub checkSaid : Checked → Said
+checkSaid (Accepted shape) = accepted (shape .states ∷ shape .operations ∷ shape .start ∷ [])
+checkSaid (Refused cause) = refused cause

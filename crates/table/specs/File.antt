@@ -1,7 +1,7 @@
 -- Document 01, "The object table": the file's bytes, its mark and its trailer.
 use mathlib.Core.Bool.{Bool, _&&_}
 use mathlib.Core.List.{List, [], _∷_}
-use Prim.Native.Nat.{ℕ, _+_, _-_, _*_}
+use Prim.Native.Nat.{ℕ, _+_, _-_, _*_, _<_}
 use lib.Dec.{leb, eqb}
 use lib.ListN.{length, getD}
 use Rattle.table.specs.declared.Shape.{Shape}
@@ -10,6 +10,10 @@ use Rattle.table.specs.Below.{allBelow}
 -- A byte of the file; past the end it is 0.
 abbrev pub byteAt : List ℕ → ℕ → ℕ
 byteAt file at = getD file at 0
+
+-- Every element of the list is a byte.
+abbrev pub Bytes : List ℕ → Type 0
+Bytes file = (at : ℕ) → byteAt file at < 256
 
 -- A number of two bytes, the low byte first.
 abbrev pub number16 : List ℕ → ℕ → ℕ

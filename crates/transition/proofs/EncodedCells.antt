@@ -1,19 +1,21 @@
 -- The words of cells in range: what is read in them, their marks, their form, and that different cells have different words.
 use mathlib.Core.Path.{_≡_, refl, ap, sym, _∙_}
 use mathlib.Core.Bool.{true, _&&_}
+use mathlib.Core.Logic.{_↔_}
 use mathlib.Core.List.{List}
 use Prim.Native.Nat.{ℕ, _+_, _*_, _^_, _<_, _≤_}
 use native.Mathlib.Nat.{pow-le-pow-right}
 use native.Mathlib.Omega.{arith}
 use borrow.Author.Tests.{ltb-true, lt-ltb, eq-eqb, ne-eqb}
 use lib.Dec.{eqb, ltb}
+use lib.ListN.{getD}
 use Rattle.cells.specs.Field.{pack, Fit}
 use Rattle.cells.specs.Form.{headInForm, headInRange, announcementInForm, announcementInRange}
-use Rattle.cells.specs.Layout.{marksWidth, marks, value, hasMark, addMark, removeMark, headWidths, headValues, headWord, headOf, announcementWidths, announcementValues, announcementWord, announcementOf}
+use Rattle.cells.specs.Layout.{marksWidth, marks, value, hasMark, addMark, removeMark, headWidths, headValues, headWord, headOf, announcementWidths, announcementValues, announcementWord, announcementOf, kindIn}
 use Rattle.cells.specs.Marks.{has, add, remove}
-use Rattle.cells.specs.MarkLaws.{SetsBit, adds, removes, set-below, has-low}
+use Rattle.cells.proofs.MarkLaws.{SetsBit, adds, removes, set-below, has-low}
 use Rattle.cells.proofs.HeadLaws.{head-decode, head-marks, head-injective, head-form}
-use Rattle.cells.proofs.AnnouncementLaws.{announcement-decode, announcement-marks, announcement-injective, announcement-form}
+use Rattle.cells.proofs.AnnouncementLaws.{announcement-decode, announcement-kind, announcement-marks, announcement-injective, announcement-form}
 use Rattle.cells.proofs.WordMarks.{has-mark, add-mark, remove-mark, set-value, set-marks}
 use Rattle.table.specs.declared.Shape.{Shape}
 use Rattle.table.proofs.Fitting.{Fitting}
@@ -107,7 +109,7 @@ module _ {c : ℕ} {f : ℕ → ℕ → ℕ} (sets : SetsBit c f) (i : ℕ) (few
 
 module _ (file : List ℕ) (shape : Shape) (table : ObjectTable file shape) (n : ℕ) (most : n ≤ marksWidth) where
   abbrev object : Object
-  object = objectOf file shape table
+  object = objectOf file shape
 
   fitting : Fitting file shape
   fitting = accepted-fitting file shape (table .accepted)
@@ -170,6 +172,15 @@ module _ (file : List ℕ) (shape : Shape) (table : ObjectTable file shape) (n :
   module _ (a : Cell Content) (ranged : AnnouncementFormed object n a) where
     pub announcement-read : announcementOf (encodeAnnouncement a) ≡ announcementIn (a .value)
     announcement-read = announcement-decode (announcementIn (a .value)) (a .marks) (content-fits (a .value) (a .marks) (ranged .value) (ranged .marks))
+
+    -- Its kind is 0 exactly if it is empty.
+    pub announcement-empty : (kindIn (encodeAnnouncement a) ≡ 0) ↔ (a .value ≡ Empty)
+    announcement-empty = by (a .value) (announcement-kind (announcementIn (a .value)) (a .marks) (content-fits (a .value) (a .marks) (ranged .value) (ranged .marks)))
+      where
+        by : (v : Content) {k : ℕ} → k ≡ getD (announcementValues (announcementIn v) (a .marks)) 1 0 → (k ≡ 0) ↔ (v ≡ Empty)
+        by Empty e = (λ _. refl, λ _. e)
+        by (Op o) e = (λ z. absurd (omega arith), λ z. cc)
+        by (Resp r) e = (λ z. absurd (omega arith), λ z. cc)
 
     pub announcement-has : (i : ℕ) → i < n → hasMark i (encodeAnnouncement a) ≡ has i (a .marks)
     announcement-has i below = cell-has content-coding a ranged i (omega arith)

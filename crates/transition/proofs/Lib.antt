@@ -2,3 +2,4 @@ mod Defaults
 pub mod EncodedCells
 pub mod Plans
 pub mod Nexts
+pub mod Lawful

@@ -10,7 +10,8 @@ use Rattle.cells.specs.Marks.{has}
 use Rattle.cells.specs.Layout.{marksWidth, hasMark, announcementOf}
 use Rattle.table.specs.declared.Shape.{Shape}
 use Rattle.machine.specs.Object.{Object}
-use Rattle.machine.specs.Memory.{HeadValue, Free, Held, Content, Empty, Op, Resp, Cell, Memory, either, head-dec, announcement-dec}
+use Rattle.machine.specs.Memory.{HeadValue, Free, Held, Content, Empty, Op, Resp, Cell, Memory, head-dec, announcement-dec}
+use Rattle.machine.specs.Update.{either}
 use Rattle.machine.specs.Machine as machine
 use Rattle.machine.specs.Machine.{Idle, ReadOnly, Announce, Poll, LoadHead, LinkHead, LoadPriority, LoadOwn, Apply, ReloadApply, LoadHelped, LinkHelped, Validate, HandOver, ReloadHandOver, Release, ReloadRelease, ClearHead, ReloadClear, LoadExit, LinkExit, ClearExit, ReleaseExit, Retract, decided, linked, plan, result, after}
 use Rattle.machine.specs.Form.{MemoryFormed, PhaseFormed}
@@ -81,9 +82,9 @@ module _ (i v : ℕ) (h : Cell HeadValue) where
   exit-next true (Held q j r) = rw (same-task j i (ℕ-discrete j i)) (holder-next true (ℕ-discrete j i))
   exit-next false (Held q j r) = rw (same-task j i (ℕ-discrete j i)) (holder-next false (ℕ-discrete j i))
 
-module _ (file : List ℕ) (shape : Shape) (table : ObjectTable file shape) (n : ℕ) (most : n ≤ marksWidth) (m : Memory) (ranged : MemoryFormed (objectOf file shape table) n m) (i p x s : ℕ) (below : i < n) where
+module _ (file : List ℕ) (shape : Shape) (table : ObjectTable file shape) (n : ℕ) (most : n ≤ marksWidth) (m : Memory) (ranged : MemoryFormed (objectOf file shape) n m) (i p x s : ℕ) (below : i < n) where
   abbrev object : Object
-  object = objectOf file shape table
+  object = objectOf file shape
 
   -- What the step leads to by the own mark in the head, or in the announcement of task j.
   head-marked : {y y′ : machine.Next} {z z′ : Next} → Encodes y z → Encodes y′ z′ → Encodes (cond (has i (m .head .marks)) y y′) (cond (hasMark i (encodeHead (m .head))) z z′)

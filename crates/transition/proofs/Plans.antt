@@ -31,7 +31,7 @@ recordIn f p x s = encodeTask (record { phase = f; operation = x; priority = p; 
 
 module _ (file : List ℕ) (shape : Shape) (table : ObjectTable file shape) (n : ℕ) (most : n ≤ marksWidth) where
   abbrev object : Object
-  object = objectOf file shape table
+  object = objectOf file shape
 
   -- A payload in range names itself.
   pub named-outcome : (v : ℕ) → v < 2 ^ responseWidth → named v ≡ v

@@ -1,4 +1,4 @@
-//! The functions of the archive. A slice is handed over as its pointer and its length.
+//! The functions of the archive. A slice is handed over as its pointer and its length, a record as its pointer.
 
 use crate::Task;
 
@@ -29,11 +29,28 @@ extern "C" {
         task_count: usize,
         task: usize,
     ) -> u64;
+    fn drive_begin_record(
+        file: *const u8,
+        file_length: usize,
+        task_count: usize,
+        task: usize,
+        operation: usize,
+        own: *mut Task,
+    ) -> u64;
+    fn drive_step_record(
+        file: *const u8,
+        file_length: usize,
+        cells: *mut u64,
+        cell_count: usize,
+        task_count: usize,
+        task: usize,
+        own: *mut Task,
+    ) -> u64;
     fn drive_ceiling(task_count: usize) -> u64;
 }
 
-// In every call below each pointer comes with the length of its own slice, whose borrow lasts as long as the call
-// and, for what may be written, is exclusive; the called function touches nothing else.
+// In every call below each pointer is that of one record, or comes with the length of its own slice. The borrow lasts as
+// long as the call and, for what may be written, is exclusive; the called function touches nothing else.
 
 #[inline]
 pub fn check(file: &[u8]) -> u64 {
@@ -83,6 +100,28 @@ pub fn step(file: &[u8], cells: &mut [u64], row: &mut [Task], task: usize) -> u6
             row.as_mut_ptr(),
             row.len(),
             task,
+        )
+    }
+}
+
+#[inline]
+pub fn begin_record(file: &[u8], tasks: usize, task: usize, operation: usize, own: &mut Task) -> u64 {
+    // SAFETY: see above.
+    unsafe { drive_begin_record(file.as_ptr(), file.len(), tasks, task, operation, own) }
+}
+
+#[inline]
+pub fn step_record(file: &[u8], cells: &mut [u64], tasks: usize, task: usize, own: &mut Task) -> u64 {
+    // SAFETY: see above.
+    unsafe {
+        drive_step_record(
+            file.as_ptr(),
+            file.len(),
+            cells.as_mut_ptr(),
+            cells.len(),
+            tasks,
+            task,
+            own,
         )
     }
 }

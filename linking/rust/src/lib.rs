@@ -2,12 +2,13 @@
 //! cells. The contract is document 01, "The drive object, its cells and its steps"; `docs/LINKING.md` is the page about
 //! linking.
 //!
-//! The borrows say most of what a caller owes: file, cells and row are valid for the whole call, do not overlap, and
-//! nobody else writes them meanwhile. What is left to the kernel:
+//! The borrows say most of what a caller owes: file, cells, row and record are valid for the whole call, do not overlap,
+//! and nobody else writes them meanwhile. What is left to the kernel:
 //!
 //! - Begin and step are called with switching closed: one call ends before the next one starts.
 //! - Within a run (an accepted [`start`] and the begins and steps after it) nothing but the calls writes cells, row or
-//!   table, and every call is lent the same ones.
+//!   table, and every call is lent the same ones. A kernel may instead keep each record with its task: it takes them out
+//!   of the row after start, and makes every call for a task with the task's record and the row's number of records.
 //!
 //! Nothing is asked of task, operation or any length: a call that can't be served is refused with the first cause that
 //! holds, and then everything lent is left as it was. No call panics, allocates or keeps a reference.
@@ -78,6 +79,36 @@ pub fn begin(file: &[u8], row: &mut [Task], task: usize, operation: usize) -> Re
 #[inline]
 pub fn step(file: &[u8], cells: &mut [u64], row: &mut [Task], task: usize) -> Result<Progress, Refusal> {
     answer::progress(foreign::step(file, cells, row, task))
+}
+
+/// Begins an operation for a task whose record is lent: [`begin`] for a row of `tasks` records that has it at the task's
+/// place. The tests are the same.
+///
+/// Writes the record.
+#[inline]
+pub fn begin_record(
+    file: &[u8],
+    tasks: usize,
+    task: usize,
+    operation: usize,
+    own: &mut Task,
+) -> Result<(), Refusal> {
+    answer::accepted(foreign::begin_record(file, tasks, task, operation, own)).map(|_| ())
+}
+
+/// Makes one step for a task whose record is lent: [`step`] for a row of `tasks` records that has it at the task's place.
+/// The tests and the answer are the same.
+///
+/// Writes the record and at most the one touched cell.
+#[inline]
+pub fn step_record(
+    file: &[u8],
+    cells: &mut [u64],
+    tasks: usize,
+    task: usize,
+    own: &mut Task,
+) -> Result<Progress, Refusal> {
+    answer::progress(foreign::step_record(file, cells, tasks, task, own))
 }
 
 /// The ceiling of own steps of an operation, whatever the other tasks do. Tests 5 on the number of tasks.

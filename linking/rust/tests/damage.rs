@@ -6,7 +6,7 @@ mod random_calls;
 
 use std::collections::BTreeSet;
 
-use both::Lent;
+use both::{By, Lent};
 use drive_object::Task;
 use random_calls::random_call;
 use reference::random::Random;
@@ -66,14 +66,14 @@ fn try_all(lent: &Lent, operations: usize, seen: &mut BTreeSet<u8>) {
     seen.insert(lent.clone().start());
 }
 
-#[test]
-fn damaged_runs_answer_as_the_second_program() {
+/// The refusals seen in damaged runs of one to eight tasks.
+fn damaged_runs(by: By) -> BTreeSet<u8> {
     let flag = TableFile::flag();
     let operations = usize::from(flag.operations);
     let mut seen = BTreeSet::new();
     for tasks in 1..=8 {
         let mut random = Random::new(tasks as u64);
-        let mut lent = Lent::new(flag.to_bytes(), tasks);
+        let mut lent = Lent::new(by, flag.to_bytes(), tasks);
         assert_eq!(lent.start(), 0);
         for _ in 0..CALLS {
             random_call(&mut lent, operations, &mut random);
@@ -82,5 +82,12 @@ fn damaged_runs_answer_as_the_second_program() {
             try_all(&damaged, operations, &mut seen);
         }
     }
-    assert_eq!(seen, BTreeSet::from([0, 1, 2, 3, 4, 9, 10, 11, 12]));
+    seen
+}
+
+#[test]
+fn damaged_runs_answer_as_the_second_program() {
+    for by in By::EACH {
+        assert_eq!(damaged_runs(by), BTreeSet::from([0, 1, 2, 3, 4, 9, 10, 11, 12]));
+    }
 }

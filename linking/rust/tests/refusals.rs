@@ -4,7 +4,7 @@ mod both;
 
 use std::collections::BTreeSet;
 
-use both::Lent;
+use both::{By, Lent};
 use drive_object::{Refusal, Shape, Task};
 use reference::refusal;
 use reference::table::Table;
@@ -73,11 +73,11 @@ fn records() -> Vec<Task> {
 const NUMBERS_OF_TASKS: [usize; 5] = [0, 1, 2, 8, 9];
 
 /// Every file with every record in every row, the cells too few, right, too many or out of form.
-fn for_all_lent(mut serve: impl FnMut(&Lent)) {
+fn for_all_lent(by: By, mut serve: impl FnMut(&Lent)) {
     for file in files() {
         for tasks in NUMBERS_OF_TASKS {
             for record in records() {
-                let mut lent = Lent::new(file.clone(), tasks);
+                let mut lent = Lent::new(by, file.clone(), tasks);
                 lent.row.fill(record);
                 for cells in [tasks, tasks + 1, tasks + 2] {
                     for word in [0, 0x100, 0x300, 0x1_0100, 1 << 63] {
@@ -115,7 +115,7 @@ fn check_answers_as_the_second_program() {
 #[test]
 fn start_answers_as_the_second_program() {
     let mut seen = BTreeSet::new();
-    for_all_lent(|lent| {
+    for_all_lent(By::Row, |lent| {
         seen.insert(lent.clone().start());
     });
     assert_eq!(seen, BTreeSet::from([0, 1, 2, 3, 4, 5, 6]));
@@ -123,26 +123,30 @@ fn start_answers_as_the_second_program() {
 
 #[test]
 fn begin_answers_as_the_second_program() {
-    let mut seen = BTreeSet::new();
-    for_all_lent(|lent| {
-        for task in TASK_NUMBERS {
-            for operation in OPERATION_NUMBERS {
-                seen.insert(lent.clone().begin(task, operation));
+    for by in By::EACH {
+        let mut seen = BTreeSet::new();
+        for_all_lent(by, |lent| {
+            for task in TASK_NUMBERS {
+                for operation in OPERATION_NUMBERS {
+                    seen.insert(lent.clone().begin(task, operation));
+                }
             }
-        }
-    });
-    assert_eq!(seen, BTreeSet::from([0, 1, 2, 3, 4, 5, 7, 8, 9, 11]));
+        });
+        assert_eq!(seen, BTreeSet::from([0, 1, 2, 3, 4, 5, 7, 8, 9, 11]));
+    }
 }
 
 #[test]
 fn step_answers_as_the_second_program() {
-    let mut seen = BTreeSet::new();
-    for_all_lent(|lent| {
-        for task in TASK_NUMBERS {
-            seen.insert(lent.clone().step(task).map_or_else(|number| number, |_| 0));
-        }
-    });
-    assert_eq!(seen, BTreeSet::from([0, 1, 2, 3, 4, 5, 6, 7, 10, 11, 12]));
+    for by in By::EACH {
+        let mut seen = BTreeSet::new();
+        for_all_lent(by, |lent| {
+            for task in TASK_NUMBERS {
+                seen.insert(lent.clone().step(task).map_or_else(|number| number, |_| 0));
+            }
+        });
+        assert_eq!(seen, BTreeSet::from([0, 1, 2, 3, 4, 5, 6, 7, 10, 11, 12]));
+    }
 }
 
 #[test]
@@ -150,6 +154,23 @@ fn ceiling_answers_as_the_second_program() {
     for tasks in [0, 1, 2, 3, 4, 5, 6, 7, 8, 9, 256, usize::MAX] {
         let theirs = reference::ceiling::ceiling(tasks).map_err(refusal::Refusal::number);
         assert_eq!(drive_object::ceiling(tasks).map_err(Refusal::number), theirs);
+    }
+}
+
+/// Numbers that no row of the second program has; its ceiling is refused for them as such a row is.
+#[test]
+fn numbers_of_tasks_past_every_row_are_refused() {
+    let flag = TableFile::flag().to_bytes();
+    for tasks in [10, 256, usize::MAX] {
+        let theirs = reference::ceiling::ceiling(tasks).map_err(refusal::Refusal::number);
+        for record in records() {
+            let (mut own, mut cells) = (record, [0; 2]);
+            let begun = drive_object::begin_record(&flag, tasks, 0, 0, &mut own);
+            assert_eq!(begun.map_err(Refusal::number).err(), theirs.err());
+            let stepped = drive_object::step_record(&flag, &mut cells, tasks, 0, &mut own);
+            assert_eq!(stepped.map_err(Refusal::number).err(), theirs.err());
+            assert_eq!((own, cells), (record, [0; 2]));
+        }
     }
 }
 
@@ -178,5 +199,15 @@ fn wide_phases_and_priorities_are_out_of_form() {
             Err(Refusal::Record)
         );
         assert_eq!(row, [record]);
+        let mut own = record;
+        assert_eq!(
+            drive_object::begin_record(&flag, 1, 0, 1, &mut own),
+            Err(Refusal::Record)
+        );
+        assert_eq!(
+            drive_object::step_record(&flag, &mut [0, 0], 1, 0, &mut own),
+            Err(Refusal::Record)
+        );
+        assert_eq!(own, record);
     }
 }

@@ -3,7 +3,7 @@
 mod both;
 mod random_calls;
 
-use both::Lent;
+use both::{By, Lent};
 use drive_object::Progress;
 use random_calls::random_call;
 use reference::random::Random;
@@ -21,9 +21,9 @@ fn largest() -> TableFile {
 }
 
 /// Makes random calls, some of them refused; how many operations ended.
-fn run(file: &TableFile, tasks: usize) -> usize {
+fn run(by: By, file: &TableFile, tasks: usize) -> usize {
     let mut random = Random::new(tasks as u64);
-    let mut lent = Lent::new(file.to_bytes(), tasks);
+    let mut lent = Lent::new(by, file.to_bytes(), tasks);
     assert_eq!(lent.start(), 0);
     let mut ended = 0;
     for _ in 0..CALLS {
@@ -36,16 +36,21 @@ fn run(file: &TableFile, tasks: usize) -> usize {
     ended
 }
 
-#[test]
-fn runs_on_the_flag() {
-    for tasks in 1..=8 {
-        assert!(run(&TableFile::flag(), tasks) > FEWEST_ENDED);
+/// Runs of one to eight tasks, by the calls on the row and by those on a record.
+fn all_runs(file: &TableFile) {
+    for by in By::EACH {
+        for tasks in 1..=8 {
+            assert!(run(by, file, tasks) > FEWEST_ENDED);
+        }
     }
 }
 
 #[test]
+fn runs_on_the_flag() {
+    all_runs(&TableFile::flag());
+}
+
+#[test]
 fn runs_on_the_largest_table() {
-    for tasks in 1..=8 {
-        assert!(run(&largest(), tasks) > FEWEST_ENDED);
-    }
+    all_runs(&largest());
 }

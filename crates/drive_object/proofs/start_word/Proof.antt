@@ -15,7 +15,7 @@ refused-word-requires : tie.Need-refused-word-requires
 refused-word-requires c κs = search needs
 
 returns : tie.Need-returns
-returns c = search needs
+returns c = simp (c .word .ensures, c .before .enum-told .given .1)
 
 returns-2 : tie.Need-returns-2
 returns-2 c = simp (c .refused-word .ensures, c .before .before .answer .given .1)

@@ -1,0 +1,9 @@
+-- All thirteen numbers are those of the document's table.
+use mathlib.Core.Path.{_≡_, refl}
+use mathlib.Core.List.{map}
+use Rattle.refusal.specs.Number.{numberOf}
+use Rattle.refusal.specs.Rows.{rows}
+
+pub numbers-hold : map (λ r. numberOf (r .cause)) rows ≡ map (λ r. r .number) rows
+unfolding rows
+numbers-hold = refl

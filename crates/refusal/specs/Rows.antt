@@ -1,0 +1,42 @@
+-- Document 01's table of refusals, row by row: each cause beside its number.
+use mathlib.Core.List.{List, [], _∷_}
+use Prim.Native.Nat.{ℕ}
+use Rattle.refusal.specs.declared.Refusal.{Refusal}
+use Rattle.refusal.specs.declared.Refusal.the-variants.{File, Dimensions, Length, Entry, Row, Cells, Task, Operation, Pending, Idle, Record, Cell, Line}
+
+pub record TableRow : Type 0 where
+  pub cause : Refusal
+  pub number : ℕ
+
+abbrev row : Refusal → ℕ → TableRow
+row c k = record { cause = c; number = k }
+
+unfoldable pub rows : List TableRow
+rows =
+    -- File under 16 or over 20,496 bytes, or mark wrong.
+    row File 1
+    -- s or m out of range, or start state not below s.
+    ∷ row Dimensions 2
+    -- Offset over 4,096, or the parts differ from the length.
+    ∷ row Length 3
+    -- Next state not below s, in the entries tested.
+    ∷ row Entry 4
+    -- Row of 0 or over 8 records.
+    ∷ row Row 5
+    -- Cells not one more than records.
+    ∷ row Cells 6
+    -- Task number not below n.
+    ∷ row Task 7
+    -- Operation not below m.
+    ∷ row Operation 8
+    -- Begin with an operation pending.
+    ∷ row Pending 9
+    -- Step with none pending.
+    ∷ row Idle 10
+    -- Record out of the forms.
+    ∷ row Record 11
+    -- Touched cell out of the forms.
+    ∷ row Cell 12
+    -- Bench line of no known form, or before an accepted start.
+    ∷ row Line 13
+    ∷ []
