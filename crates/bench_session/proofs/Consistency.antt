@@ -4,7 +4,7 @@ use mathlib.Core.Bool.{Bool, true, false, cond, not, _&&_}
 use mathlib.Core.List.{List, [], _∷_}
 use Prim.Native.Nat.{ℕ}
 use lib.Dec.{eqb}
-use Rattle.table.proofs.Accepted.{Bytes}
+use Rattle.table.specs.File.{Bytes}
 use Rattle.bench_lines.specs.declared.command.Command.{Command}
 use Rattle.bench_lines.specs.declared.command.Command.the-variants as command
 use Rattle.bench_lines.specs.Command.{commandOf}

@@ -3,29 +3,23 @@
 use mathlib.Core.Path.{_≡_, refl, sym, ap, subst, _∙_}
 use mathlib.Core.Bool.{Bool, true, false, cond}
 use mathlib.Core.List.{List, [], _∷_, _++_}
-use Prim.Native.Nat.{ℕ, zero, suc, _+_, _≤_}
+use Prim.Native.Nat.{ℕ, zero, suc, _≤_}
 use native.Mathlib.Omega.{arith}
-use borrow.Author.Tests.{leb-true, leb-false, ltb-true, ltb-false}
-use lib.Dec.{eqb, leb, ltb}
+use borrow.Author.Tests.{leb-true, ltb-true}
+use lib.Dec.{leb, ltb}
 use lib.ListN.{length, take, drop, length-set}
 use lib.Seq.{length-front, length-take-le, take-at}
-use Rattle.table.proofs.Accepted.{Bytes}
-use Rattle.machine.specs.Run.{Call, Begin, Step}
+use Rattle.machine.specs.Calls.{Call, Begin, Step}
 use Rattle.records.specs.declared.record.Task.{Task}
-use Rattle.stepping.specs.declared.call.StartAnswer.{StartAnswer}
-use Rattle.stepping.specs.declared.call.StartAnswer.the-variants as start
 use Rattle.stepping.specs.Call.{Begun, beginOf, Served, stepOf, taskAt}
-use Rattle.stepping.specs.Runs.{Store, startStore, serveOf, runOf}
+use Rattle.stepping.specs.Opening.{Opening}
+use Rattle.stepping.specs.Runs.{Store, serveOf, runOf}
 use Rattle.stepping.proofs.Theorem.{touches-one-cell}
-use Rattle.bench_row.specs.First.{firstCount, startFirst, beginFirst, stepFirst}
-use Rattle.bench_lines.specs.declared.command.Command.{Command}
-use Rattle.bench_lines.specs.declared.command.Command.the-variants as command
-use Rattle.bench_lines.specs.Line.{newline}
+use Rattle.bench_row.specs.First.{firstCount, beginFirst, stepFirst}
 use Rattle.bench_session.specs.declared.run.Bench.{Bench}
 use Rattle.bench_session.specs.declared.run.Handled.{Handled}
-use Rattle.bench_session.specs.Run.{Printing, unstartedBench, cellCount, startHeld, startBench, openedBy, opened, beginBench, stepHeld, stepBench, runsOn, finishFrom, mostTurns, actOf, serveOf as serveCommand}
-use Rattle.bench_session.specs.Session.{Fed, Consumed, newSession, feedByte, feed}
-use Rattle.bench_session.proofs.Openings.{Opens, start-opens, Sizes, start-sizes, run-more}
+use Rattle.bench_session.specs.Run.{cellCount, beginBench, stepHeld, stepBench, runsOn, finishFrom}
+use Rattle.bench_session.proofs.Openings.{run-more}
 
 -- ---- The first cells and records
 
@@ -118,7 +112,7 @@ module _ (file : List ℕ) (bench : Bench) (nine : Nine bench) where
 -- Before an accepted start there are no tasks; after one the lent cells and records are what the calls since have left.
 pub data Situation (file : List ℕ) (n : ℕ) (s : Store) : Type 0 where
   before : n ≡ 0 → Situation file n s
-  during : {first : Store} → Opens file n first → (xs : List Call) → runOf file xs first ≡ s → Situation file n s
+  during : {q : ℕ} {first : Store} → Opening file n q first → (xs : List Call) → runOf file xs first ≡ s → Situation file n s
 
 situation-more : {file : List ℕ} {n : ℕ} {s : Store} → Situation file n s → (x : Call) → Situation file n (serveOf file x s .store)
 situation-more (before e) x = before e

@@ -4,29 +4,28 @@ use mathlib.Core.Bool.{true, false}
 use mathlib.Core.List.{List, [], _∷_, _++_}
 use Prim.Native.Nat.{ℕ, zero, suc, _+_, _-_, _≤_}
 use native.Mathlib.Omega.{arith}
-use lib.ListN.{take}
 use Rattle.table.specs.declared.Checked.{Checked}
 use Rattle.table.specs.declared.Checked.the-variants as table
 use Rattle.table.specs.Layout.{layoutOf}
 use Rattle.cells.specs.Ceiling.{ceilingOf}
-use Rattle.machine.specs.Run.{Call, Step, Running}
+use Rattle.machine.specs.Calls.{Call, Step}
 use Rattle.machine.specs.History.{Pends, pending}
-use Rattle.machine.specs.Demand.{Accepted}
+use Rattle.machine.specs.Demand.{StepAccepted}
 use Rattle.records.specs.declared.record.Task.{Task}
 use Rattle.stepping.specs.declared.call.Answer.{Answer}
 use Rattle.stepping.specs.declared.call.Answer.the-variants as step
-use Rattle.stepping.specs.Call.{withRow, admitOf, stepIn, stepTask, stepOf, taskAt}
-use Rattle.stepping.specs.Encoding.{stepAnswer}
+use Rattle.stepping.specs.Call.{withRow, admitOf, stepIn, stepTask, stepOf, stepSaid, taskAt}
+use Rattle.stepping.specs.Opening.{Opening}
 use Rattle.stepping.specs.Runs.{Store, serveOf, runOf, historyOf}
 use Rattle.bench_lines.specs.declared.reply.Reply.{Reply}
 use Rattle.bench_lines.specs.declared.reply.Reply.the-variants as reply
-use Rattle.bench_row.specs.First.{firstCount, stepFirst}
+use Rattle.bench_row.specs.First.{stepFirst}
 use Rattle.bench_session.specs.declared.run.Bench.{Bench}
 use Rattle.bench_session.specs.declared.run.Handled.{Handled}
 use Rattle.bench_session.specs.Run.{stepReply, stepHeld, stepBench, runsOn, finishFrom, mostTurns, most-turns, finishBench}
 use Rattle.bench_session.specs.Statement.{EndsBy, benchAfter, Finishes}
 use Rattle.bench_session.proofs.Runs.{finish-more, finish-last}
-use Rattle.bench_session.proofs.Openings.{Opens, Timely, pending-timely, running-pends, pending-longer, run-more}
+use Rattle.bench_session.proofs.Openings.{pending-timely, running-pends, pending-longer, run-more}
 use Rattle.bench_session.proofs.Situations.{lent, Nine, nine-step, lent-step, Situation, before, during}
 use Rattle.bench_session.proofs.Consistency.{consistent-after}
 
@@ -50,9 +49,9 @@ ended-responds file k t bench r i e =
     let told = step-reply file bench t (step.Ended r i) e in
     (r, ap (λ (h : Handled). h .reply) (finish-last k file t (stepBench file bench t) (ap runsOn told)) ∙ told)
 
-module _ {file : List ℕ} {n : ℕ} {s : Store} (o : Opens file n s) (t x : ℕ) where
+module _ {file : List ℕ} {n q : ℕ} {s : Store} (o : Opening file n q s) (t x : ℕ) where
   -- An accepted step ends the operation, or answers running, and then more steps end it.
-  accepted-responds : (k : ℕ) (bench : Bench) → Accepted (stepAnswer (answerOn file bench t)) → (a : Answer) → answerOn file bench t ≡ a
+  accepted-responds : (k : ℕ) (bench : Bench) → StepAccepted (stepSaid (answerOn file bench t)) → (a : Answer) → answerOn file bench t ≡ a
       → (answerOn file bench t ≡ step.Running → Responds file k t (stepBench file bench t)) → Responds file k t (stepBench file bench t)
   accepted-responds k bench h step.Running e more = more e
   accepted-responds k bench h (step.Ended r i) e more = ended-responds file k t bench r i e
@@ -70,7 +69,7 @@ module _ {file : List ℕ} {n : ℕ} {s : Store} (o : Opens file n s) (t x : ℕ
       let next = ap (λ (z : Store). serveOf file (Step t) z .store) same ∙ lent-step file bench nine t in
       let ends = accepted-responds k bench (rw told at (pending-timely o xs t x j p .accepted)) (answerOn file bench t) refl (λ e.
       running-responds k (suc j) (stepBench file bench t) (xs ++ (Step t ∷ [])) (nine-step file bench nine t) (run-more file xs (Step t) s ∙ next)
-      (ap runsOn (step-reply file bench t step.Running e)) (pending-longer file xs s t x j p (told ∙ ap stepAnswer e)) (omega arith)) in
+      (ap runsOn (step-reply file bench t step.Running e)) (pending-longer o xs t x j p (told ∙ ap stepSaid e)) (omega arith)) in
       (ends .0, ap (λ (h : Handled). h .reply) more ∙ ends .1)
 
 -- ---- From the first step
@@ -99,13 +98,13 @@ finishes file bytes input t = at (answerOn file bench t) refl
     last : (a : Answer) → answerOn file bench t ≡ a → runsOn (stepReply t a) ≡ false → finishBench file bench t .reply ≡ stepReply t a
     last a e h = let told = step-reply file bench t a e in ap (λ (z : Handled). z .reply) (finish-last mostTurns file t (stepBench file bench t) (ap runsOn told ∙ h)) ∙ told
 
-    during-responds : {s : Store} → Opens file (bench .tasks) s → (xs : List Call) → Nine bench → runOf file xs s ≡ lent bench → answerOn file bench t ≡ step.Running → Responds file mostTurns t (stepBench file bench t)
-    during-responds {s} o xs nine same e =
-        let told = ap (λ (z : Store). serveOf file (Step t) z .answer) same ∙ ap stepAnswer e in
+    during-responds : {q : ℕ} {s : Store} → Opening file (bench .tasks) q s → (xs : List Call) → Nine bench → runOf file xs s ≡ lent bench → answerOn file bench t ≡ step.Running → Responds file mostTurns t (stepBench file bench t)
+    during-responds {s = s} o xs nine same e =
+        let told = ap (λ (z : Store). serveOf file (Step t) z .answer) same ∙ ap stepSaid e in
         let (x, (j, p)) = running-pends o xs t told in
         let next = ap (λ (z : Store). serveOf file (Step t) z .store) same ∙ lent-step file bench nine t in
         running-responds o t x mostTurns (suc j) (stepBench file bench t) (xs ++ (Step t ∷ [])) (nine-step file bench nine t) (run-more file xs (Step t) s ∙ next)
-        (ap runsOn (step-reply file bench t step.Running e)) (pending-longer file xs s t x j p told) (omega (arith, most-turns))
+        (ap runsOn (step-reply file bench t step.Running e)) (pending-longer o xs t x j p told) (omega (arith, most-turns))
 
     responds : Nine bench → Situation file (bench .tasks) (lent bench) → answerOn file bench t ≡ step.Running → Responds file mostTurns t (stepBench file bench t)
     responds nine (before z) e = absurd (no-tasks file (lent bench .cells) t (subst (λ (row : List Task). stepOf file (lent bench .cells) row t .answer ≡ step.Running) (no-records bench z) e))

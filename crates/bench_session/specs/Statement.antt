@@ -2,7 +2,7 @@
 use mathlib.Core.Path.{_≡_}
 use mathlib.Core.List.{List}
 use Prim.Native.Nat.{ℕ}
-use Rattle.table.proofs.Accepted.{Bytes}
+use Rattle.table.specs.File.{Bytes}
 use Rattle.bench_lines.specs.declared.reply.Reply.{Reply}
 use Rattle.bench_lines.specs.declared.reply.Reply.the-variants as reply
 use Rattle.bench_session.specs.declared.run.Bench.{Bench}
