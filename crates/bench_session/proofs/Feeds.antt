@@ -11,7 +11,7 @@ use Rattle.bench_session.specs.declared.session.Taken.{Taken}
 use Rattle.bench_session.specs.declared.session.Tested.{Tested}
 use Rattle.table.specs.declared.Checked.{Checked}
 use Rattle.bench_lines.specs.Line.{newline}
-use Rattle.bench_session.specs.Session.{Fed, Consumed, Follows, Yields, Answers, Continues, Reached, newSession, keepByte, endLine, feedByte, feed, andThen}
+use Rattle.bench_session.specs.Session.{Fed, Consumed, Follows, Yields, Reports, Continues, Reached, newSession, keepByte, endLine, feedByte, feed, andThen}
 
 -- Byte 10 ends a line; any other byte is kept.
 pub feed-newline : (file : List ℕ) (fed : Fed) (b : ℕ) → b ≡ newline → endLine file fed ≡ feedByte file fed b
@@ -59,8 +59,8 @@ follows-as session fed other e = subst (λ (f : Fed). Follows f session) e
 pub yields-as : (r : Taken) (out other : Consumed) → out ≡ other → Yields r out → Yields r other
 yields-as r out other e = subst (λ (o : Consumed). Yields r o) e
 
-pub answers-as : (r : Tested) (out other : Checked) → out ≡ other → Answers r out → Answers r other
-answers-as r out other e = subst (λ (o : Checked). Answers r o) e
+pub reports-as : (r : Tested) (out other : Checked) → out ≡ other → Reports r out → Reports r other
+reports-as r out other e = subst (λ (o : Checked). Reports r o) e
 
 -- What a session has reached when some bytes more have been fed.
 pub reached-none : (file : List ℕ) (session : Session) → Follows newSession session → Reached file session

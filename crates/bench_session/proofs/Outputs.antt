@@ -1,6 +1,6 @@
 -- The output of the whole input: what the bytes print one after another, and the end of the input after them.
 use mathlib.Core.Path.{_≡_, refl, ap, sym, _∙_}
-use mathlib.Core.Bool.{Bool, true, false}
+use mathlib.Core.Bool.{Bool, true, false, cond}
 use mathlib.Core.List.{List, [], _∷_, _++_, append-assoc, append-nil}
 use Prim.Native.Nat.{ℕ}
 use lib.Dec.{eqb}
@@ -12,7 +12,7 @@ use Rattle.bench_lines.specs.declared.reply.Reply.the-variants as reply
 use Rattle.bench_lines.specs.Line.{newline, replyLine}
 use Rattle.bench_session.specs.declared.run.Bench.{Bench}
 use Rattle.bench_session.specs.Run.{unstartedBench}
-use Rattle.bench_session.specs.Session.{Fed, Consumed, lengthened, linesOf, serveLine, printLines, outputOf, newSession, keptByte, feedByte, feed, lastText, finishText}
+use Rattle.bench_session.specs.Session.{Fed, isServed, tableText, prefixed, linesOf, serveLine, printLines, outputOf, newSession, feedByte, feed, lastText, finishText}
 
 -- Bytes before the first line; if there is none, they are a line that the end of the input ends, unless there are no bytes.
 abbrev joined : List ℕ → List (List ℕ) → List (List ℕ)
@@ -24,7 +24,7 @@ joined-first : (bytes line : List ℕ) (lines : List (List ℕ)) → joined byte
 joined-first [] line lines = refl
 joined-first (b ∷ bs) line lines = refl
 
-joined-more : (bytes : List ℕ) (b : ℕ) (lines : List (List ℕ)) → joined (bytes ++ (b ∷ [])) lines ≡ joined bytes (lengthened b lines)
+joined-more : (bytes : List ℕ) (b : ℕ) (lines : List (List ℕ)) → joined (bytes ++ (b ∷ [])) lines ≡ joined bytes (prefixed b lines)
 joined-more [] b [] = refl
 joined-more [] b (line ∷ lines) = refl
 joined-more (x ∷ xs) b [] = refl
@@ -82,18 +82,43 @@ output-refused file cause e input = simp (e, append-nil)
 -- ---- The lines of an input
 
 -- No byte 10 among the bytes.
-pub data Plain : List ℕ → Type 0 where
-  none : Plain []
-  more : {b : ℕ} {bs : List ℕ} → eqb b newline ≡ false → Plain bs → Plain (b ∷ bs)
+pub data Unbroken : List ℕ → Type 0 where
+  none : Unbroken []
+  more : {b : ℕ} {bs : List ℕ} → eqb b newline ≡ false → Unbroken bs → Unbroken (b ∷ bs)
 
--- A line that byte 10 ends.
-pub lines-closed : (line rest : List ℕ) → Plain line → linesOf (line ++ (newline ∷ rest)) ≡ line ∷ linesOf rest
-unfolding linesOf
-lines-closed [] rest none = refl
-lines-closed (b ∷ bs) rest (more h p) = simp (h, lines-closed bs rest p)
+-- Lines without byte 10 in them.
+pub data AllUnbroken : List (List ℕ) → Type 0 where
+  none : AllUnbroken []
+  more : {line : List ℕ} {lines : List (List ℕ)} → Unbroken line → AllUnbroken lines → AllUnbroken (line ∷ lines)
 
--- A line that is not empty, and that the end of the input ends.
-pub lines-unfinished : (b : ℕ) (bs : List ℕ) → Plain (b ∷ bs) → linesOf (b ∷ bs) ≡ (b ∷ bs) ∷ []
+-- Lines that byte 10 ends, each.
+abbrev pub closedLines : List (List ℕ) → List ℕ
+closedLines [] = []
+closedLines (line ∷ lines) = line ++ (newline ∷ closedLines lines)
+
+line-closed : (line rest : List ℕ) → Unbroken line → linesOf (line ++ (newline ∷ rest)) ≡ line ∷ linesOf rest
 unfolding linesOf
-lines-unfinished b [] (more h p) = simp h
-lines-unfinished b (x ∷ bs) (more h p) = simp (h, lines-unfinished x bs p)
+line-closed [] rest none = refl
+line-closed (b ∷ bs) rest (more h p) = simp (h, line-closed bs rest p)
+
+-- They are the lines of an input that is made of them.
+pub lines-closed : (lines : List (List ℕ)) → AllUnbroken lines → linesOf (closedLines lines) ≡ lines
+unfolding linesOf
+lines-closed [] none = refl
+lines-closed (line ∷ lines) (more h p) = line-closed line (closedLines lines) h ∙ ap (λ (ls : List (List ℕ)). line ∷ ls) (lines-closed lines p)
+
+-- So what is printed for them is what each prints, in order.
+pub output-closed : (file : List ℕ) (shape : Shape) → checkOf file ≡ checked.Accepted shape
+    → (lines : List (List ℕ)) → AllUnbroken lines → outputOf file (closedLines lines) ≡ printLines file unstartedBench lines
+output-closed file shape e lines h = output-served file shape e (closedLines lines) ∙ ap (printLines file unstartedBench) (lines-closed lines h)
+
+-- A last line that is not empty is the same with byte 10 after it and without.
+lines-unfinished : (input : List ℕ) (b : ℕ) → eqb b newline ≡ false → linesOf (input ++ (b ∷ [])) ≡ linesOf (input ++ (b ∷ newline ∷ []))
+unfolding linesOf
+lines-unfinished [] b h = simp h
+lines-unfinished (x ∷ xs) b h = ap (λ (ls : List (List ℕ)). cond (eqb x newline) ([] ∷ ls) (prefixed x ls)) (lines-unfinished xs b h)
+
+pub output-unfinished : (file input : List ℕ) (b : ℕ) → eqb b newline ≡ false → outputOf file (input ++ (b ∷ [])) ≡ outputOf file (input ++ (b ∷ newline ∷ []))
+unfolding outputOf
+output-unfinished file input b h =
+    ap (λ (ls : List (List ℕ)). tableText (checkOf file) ++ cond (isServed (checkOf file)) (printLines file unstartedBench ls) []) (lines-unfinished input b h)

@@ -28,7 +28,7 @@ abbrev pub lent : Bench → Store
 lent bench = record { cells = take (cellCount (bench .tasks)) (bench .cells); row = take (firstCount (bench .tasks)) (bench .row) }
 
 -- The bench holds nine cells and nine records.
-pub record Nine (bench : Bench) : Type 0 where
+pub record NineHeld (bench : Bench) : Type 0 where
   pub cells : length (bench .cells) ≡ 9
   pub row : length (bench .row) ≡ 9
 
@@ -62,7 +62,7 @@ stepOut file bench t = stepOf file (lent bench .cells) (lent bench .row) t
 abbrev beginOut : List ℕ → Bench → (t o : ℕ) → Begun
 beginOut file bench t o = beginOf file (lent bench .row) t o
 
-module _ (file : List ℕ) (bench : Bench) (nine : Nine bench) where
+module _ (file : List ℕ) (bench : Bench) (nine : NineHeld bench) where
   cells-room : cellCount (bench .tasks) ≤ length (bench .cells)
   cells-room = rw (nine .cells) (few-cells (bench .tasks))
 
@@ -78,7 +78,7 @@ module _ (file : List ℕ) (bench : Bench) (nine : Nine bench) where
     unfolding stepOf
     step-row = length-set (lent bench .row) t _
 
-    pub nine-step : Nine (stepBench file bench t .bench)
+    pub nine-step : NineHeld (stepBench file bench t .bench)
     unfolding stepBench stepHeld stepFirst
     nine-step = record {
       cells = length-front (bench .cells) (stepOut file bench t .cells) (cellCount (bench .tasks)) step-cells ∙ nine .cells;
@@ -99,7 +99,7 @@ module _ (file : List ℕ) (bench : Bench) (nine : Nine bench) where
     unfolding beginOf
     begin-row = length-set (lent bench .row) t _
 
-    pub nine-begin : Nine (beginBench file bench t o .bench)
+    pub nine-begin : NineHeld (beginBench file bench t o .bench)
     unfolding beginBench beginFirst
     nine-begin = record { cells = nine .cells; row = length-front (bench .row) (beginOut file bench t o .row) (firstCount (bench .tasks)) begin-row ∙ nine .row }
 
@@ -122,7 +122,7 @@ situation-as : {file : List ℕ} {n : ℕ} {s other : Store} → s ≡ other →
 situation-as {file} {n} e = subst (λ (z : Store). Situation file n z) e
 
 pub record Consistent (file : List ℕ) (bench : Bench) : Type 0 where
-  pub nine : Nine bench
+  pub nine : NineHeld bench
   pub situation : Situation file (bench .tasks) (lent bench)
 
 -- ---- Every command keeps it

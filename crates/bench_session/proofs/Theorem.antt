@@ -26,7 +26,7 @@ use Rattle.bench_session.specs.Run.{stepReply, stepHeld, stepBench, runs
 use Rattle.bench_session.specs.Statement.{EndsBy, benchAfter, Finishes}
 use Rattle.bench_session.proofs.Runs.{finish-more, finish-last}
 use Rattle.bench_session.proofs.Openings.{pending-timely, running-pends, pending-longer, run-more}
-use Rattle.bench_session.proofs.Situations.{lent, Nine, nine-step, lent-step, Situation, before, during}
+use Rattle.bench_session.proofs.Situations.{lent, NineHeld, nine-step, lent-step, Situation, before, during}
 use Rattle.bench_session.proofs.Consistency.{consistent-after}
 
 -- What a step on the lent cells and records answers.
@@ -58,7 +58,7 @@ module _ {file : List ℕ} {n q : ℕ} {s : Store} (o : Opening file n q s) (t x
   accepted-responds k bench h (step.Refused c) e more = absurd (rw e at h)
 
   -- Operation x of task t is pending after j own steps, and k more steps would reach the greatest ceiling.
-  running-responds : (k j : ℕ) (out : Handled) (xs : List Call) → Nine (out .bench) → runOf file xs s ≡ lent (out .bench) → runsOn (out .reply) ≡ true
+  running-responds : (k j : ℕ) (out : Handled) (xs : List Call) → NineHeld (out .bench) → runOf file xs s ≡ lent (out .bench) → runsOn (out .reply) ≡ true
       → pending (historyOf file xs s) t ≡ Pends x j → 512000 ≤ j + k → Responds file k t out
   running-responds zero j out xs nine same runs p enough = absurd (omega (arith, pending-timely o xs t x j p .below))
   running-responds (suc k) j out xs nine same runs p enough =
@@ -98,7 +98,7 @@ finishes file bytes input t = at (answerOn file bench t) refl
     last : (a : Answer) → answerOn file bench t ≡ a → runsOn (stepReply t a) ≡ false → finishBench file bench t .reply ≡ stepReply t a
     last a e h = let told = step-reply file bench t a e in ap (λ (z : Handled). z .reply) (finish-last mostTurns file t (stepBench file bench t) (ap runsOn told ∙ h)) ∙ told
 
-    during-responds : {q : ℕ} {s : Store} → Opening file (bench .tasks) q s → (xs : List Call) → Nine bench → runOf file xs s ≡ lent bench → answerOn file bench t ≡ step.Running → Responds file mostTurns t (stepBench file bench t)
+    during-responds : {q : ℕ} {s : Store} → Opening file (bench .tasks) q s → (xs : List Call) → NineHeld bench → runOf file xs s ≡ lent bench → answerOn file bench t ≡ step.Running → Responds file mostTurns t (stepBench file bench t)
     during-responds {s = s} o xs nine same e =
         let told = ap (λ (z : Store). serveOf file (Step t) z .answer) same ∙ ap stepSaid e in
         let (x, (j, p)) = running-pends o xs t told in
@@ -106,7 +106,7 @@ finishes file bytes input t = at (answerOn file bench t) refl
         running-responds o t x mostTurns (suc j) (stepBench file bench t) (xs ++ (Step t ∷ [])) (nine-step file bench nine t) (run-more file xs (Step t) s ∙ next)
         (ap runsOn (step-reply file bench t step.Running e)) (pending-longer o xs t x j p told) (omega (arith, most-turns))
 
-    responds : Nine bench → Situation file (bench .tasks) (lent bench) → answerOn file bench t ≡ step.Running → Responds file mostTurns t (stepBench file bench t)
+    responds : NineHeld bench → Situation file (bench .tasks) (lent bench) → answerOn file bench t ≡ step.Running → Responds file mostTurns t (stepBench file bench t)
     responds nine (before z) e = absurd (no-tasks file (lent bench .cells) t (subst (λ (row : List Task). stepOf file (lent bench .cells) row t .answer ≡ step.Running) (no-records bench z) e))
     responds nine (during o xs same) e = during-responds o xs nine same e
 

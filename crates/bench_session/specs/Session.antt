@@ -20,14 +20,14 @@ use Rattle.bench_session.specs.Run.{Printing, unstartedBench, serveOf, S
 -- ---- The whole input, line by line
 
 -- A byte before the first line; if there is none, it is a line that the end of the input ends.
-abbrev pub lengthened : ℕ → List (List ℕ) → List (List ℕ)
-lengthened b [] = (b ∷ []) ∷ []
-lengthened b (line ∷ lines) = (b ∷ line) ∷ lines
+abbrev pub prefixed : ℕ → List (List ℕ) → List (List ℕ)
+prefixed b [] = (b ∷ []) ∷ []
+prefixed b (line ∷ lines) = (b ∷ line) ∷ lines
 
 -- The lines of an input. A line ends before byte 10, which isn't counted, or, if not empty, at the end of the input.
 unfoldable pub linesOf : List ℕ → List (List ℕ)
 linesOf [] = []
-linesOf (b ∷ bs) = cond (eqb b newline) ([] ∷ linesOf bs) (lengthened b (linesOf bs))
+linesOf (b ∷ bs) = cond (eqb b newline) ([] ∷ linesOf bs) (prefixed b (linesOf bs))
 
 -- What one line leaves and prints.
 abbrev pub serveLine : List ℕ → Bench → List ℕ → Printing
@@ -127,8 +127,8 @@ abbrev pub Yields : Taken → Consumed → Type 0
 Yields r out = Follows (out .fed) (r .session) × Spells (r .text) (out .text)
 
 -- Whether a table is served, and what is printed for it.
-abbrev pub Answers : Tested → Checked → Type 0
-Answers r out = (r .served ≡ isServed out) × Spells (r .text) (tableText out)
+abbrev pub Reports : Tested → Checked → Type 0
+Reports r out = (r .served ≡ isServed out) × Spells (r .text) (tableText out)
 
 -- A session to which some bytes more have been fed.
 abbrev pub Continues : List ℕ → (before after : Session) → Type 0

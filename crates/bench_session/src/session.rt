@@ -13,7 +13,7 @@ ghost use Prim.Native.Nat.{ℕ};
 ghost use Rattle.table.specs.Check.{checkOf};
 ghost use Rattle.bench_lines.specs.Command.{commandOf};
 ghost use Rattle.bench_session.specs.Run.{Spells};
-ghost use Rattle.bench_session.specs.Session.{Fed, Holds, Follows, Yields, Answers, newSession, keptByte, endLine, feedByte, finishText};
+ghost use Rattle.bench_session.specs.Session.{Fed, Holds, Follows, Yields, Reports, newSession, keptByte, endLine, feedByte, finishText};
 
 const NEWLINE: u8 = 10;
 
@@ -40,7 +40,7 @@ pub struct Tested {
 
 // The table is tested before the first line; of one that is not served the number alone is printed.
 pub fn test_table(file: &[u8]) -> Tested
-    ensures { λ r. ⌜ Answers r (checkOf (now (file .entry))) ⌝ }
+    ensures { λ r. ⌜ Reports r (checkOf (now (file .entry))) ⌝ }
 {
     let checked = table::check(file);
     match checked {

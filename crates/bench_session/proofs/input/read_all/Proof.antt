@@ -1,8 +1,7 @@
 -- The session follows all bytes that were read.
 use native.Mathlib.Omega.{arith}
 use borrow.Author.Needs.{needs}
-use mathlib.Core.List.{[]}
-use Rattle.bench_session.specs.Session.{Reached, newSession}
+use Rattle.bench_session.specs.Session.{Reached}
 use Rattle.bench_session.proofs.Feeds.{reached-none, reached-more}
 use Rattle.bench_session.proofs.input.read_all.Statement.{statement}
 use Rattle.bench_session.proofs.input.read_all.Tie as tie

@@ -1,5 +1,4 @@
 use borrow.Author.Needs.{needs}
-use lib.ListN.{take}
 use Rattle.bench_session.proofs.input.read_part.Statement.{statement}
 use Rattle.bench_session.proofs.input.read_part.Tie as tie
 

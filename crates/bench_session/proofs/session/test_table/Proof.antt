@@ -1,7 +1,7 @@
 use borrow.Author.Needs.{needs}
 use mathlib.Core.Path.{_∙_, sym, refl}
 use mathlib.Core.Bool.{true, false}
-use Rattle.bench_session.proofs.Feeds.{answers-as}
+use Rattle.bench_session.proofs.Feeds.{reports-as}
 use Rattle.bench_session.proofs.session.test_table.Statement.{statement}
 use Rattle.bench_session.proofs.session.test_table.Tie as tie
 
@@ -21,10 +21,10 @@ reply-line-requires-2 : tie.Need-reply-line-requires-2
 reply-line-requires-2 c κs = search needs
 
 returns : tie.Need-returns
-returns c = answers-as (record { served = true; text = c .reply-line .result }) _ _ (sym (c .before .enum-told .given .1) ∙ c .before .before .before .check .ensures) (refl, c .reply-line .ensures)
+returns c = reports-as (record { served = true; text = c .reply-line .result }) _ _ (sym (c .before .enum-told .given .1) ∙ c .before .before .before .check .ensures) (refl, c .reply-line .ensures)
 
 returns-2 : tie.Need-returns-2
-returns-2 c = answers-as (record { served = false; text = c .reply-line2 .result }) _ _ (sym (c .before .before .checked .given .1) ∙ c .before .before .before .before .check .ensures) (refl, c .reply-line2 .ensures)
+returns-2 c = reports-as (record { served = false; text = c .reply-line2 .result }) _ _ (sym (c .before .before .checked .given .1) ∙ c .before .before .before .before .check .ensures) (refl, c .reply-line2 .ensures)
 
 pub test-table-spec : {M : Type 1} → statement M
 test-table-spec =
