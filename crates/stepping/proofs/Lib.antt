@@ -4,7 +4,7 @@ pub mod Ready
 pub mod Parts
 pub mod Refused
 pub mod Local
-pub mod Rule
+pub mod AccessRule
 pub mod Tables
 pub mod Records
 pub mod Accesses
@@ -13,5 +13,6 @@ pub mod Advances
 pub mod Simulation
 pub mod Starts
 pub mod Demands
+pub mod Between
 pub mod Theorem
 pub mod Cases

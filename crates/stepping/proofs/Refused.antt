@@ -25,9 +25,9 @@ use Rattle.stepping.specs.declared.call.StartAnswer.the-variants as star
 use Rattle.stepping.specs.declared.call.BeginAnswer.the-variants as begin
 use Rattle.stepping.specs.declared.call.Begin.{Begin}
 use Rattle.records.specs.Record.{idleTask, readRecord}
-use Rattle.transition.specs.Transition.{planOf, usedInRange, nextOf}
-use Rattle.stepping.specs.Step.{touched, foundOf, cellInForm, answerOf}
-use Rattle.stepping.specs.Call.{withRow, admitOf, Started, refuseStart, withCells, filled, startOf, admitStartOf, refuseBegin, beginFrom, beginIn, beginTask, Stepped, refuseStep, touch, stepFrom, stepIn, stepTask, taskAt, beginOf, stepOf}
+use Rattle.transition.specs.Transition.{planOf, usedInRange}
+use Rattle.stepping.specs.Step.{touched, cellInForm, answerOf}
+use Rattle.stepping.specs.Call.{withRow, admitOf, Started, refuseStart, withCells, filled, startOf, admitStartOf, refuseBegin, beginFrom, beginIn, beginTask, Stepped, refuseStep, ledTo, touch, stepFrom, stepIn, stepTask, taskAt, beginOf, stepOf}
 use Rattle.stepping.proofs.Lists.{set-held}
 
 -- What holds of both sides of a choice holds of the choice.
@@ -100,7 +100,7 @@ module _ (file cells : List ℕ) (n i : ℕ) (t : Task) where
   step-touch shape f a =
       choice StepKept (cellInForm shape n (touched a) (getD cells (touched a) 0)) _ _
       (choice StepKept (usedInRange file shape t (getD cells (touched a) 0) f) _ _
-      (record { same = λ reason e. absurd (accepts t (nextOf file shape i (t .priority) t f (foundOf (getD cells (touched a) 0) a)) reason e) })
+      (record { same = λ reason e. absurd (accepts t (ledTo file shape cells i t f a) reason e) })
       (step-refused cause.Entry))
       (step-refused cause.Cell)
 

@@ -1,5 +1,5 @@
--- The theorems about start, begin and step: a proof of each statement of specs/Access.antt, specs/Opening.antt and
--- specs/Statement.antt.
+-- The theorems about start, begin and step: a proof of each statement of specs/Access.antt, specs/Opening.antt, specs/Lent.antt
+-- and specs/Statement.antt.
 use mathlib.Core.Path.{_≡_, ap, sym, _∙_}
 use mathlib.Core.List.{List}
 use Prim.Native.Nat.{ℕ, _+_, _*_}
@@ -17,14 +17,15 @@ use Rattle.machine.proofs.OwnSteps.{next-step}
 use Rattle.machine.proofs.WaitFree.{bound-ceiling}
 use Rattle.records.specs.declared.record.Task.{Task}
 use Rattle.transition.specs.Encoding.{encodeAccess}
-use Rattle.stepping.specs.Call.{stepOf}
-use Rattle.stepping.specs.Access.{MakesAccess, FollowsResult, Local, OneCell}
+use Rattle.stepping.specs.Access.{MakesAccess, FollowsResult, RowMakesAccess, RowFollowsResult, Local, OneCell}
 use Rattle.stepping.specs.Runs.{Store}
 use Rattle.stepping.specs.Opening.{Opening, objectIn, Startable, StartOpens}
+use Rattle.stepping.specs.Lent.{Places, Between, OpensNext}
 use Rattle.stepping.specs.Statement.{Demands, SharperDemands, Independent, Refusals, Endings, Emptied}
+use Rattle.stepping.proofs.Between.{between, opens-next}
 use Rattle.stepping.proofs.Demands.{opens, history-opened, answer-opened, access-opened, refused-opened, demands, emptied}
 use Rattle.stepping.proofs.Local.{step-local, step-elsewhere}
-use Rattle.stepping.proofs.Rule.{makes-access, follows-result}
+use Rattle.stepping.proofs.AccessRule.{makes-access, follows-result, row-makes-access, row-follows-result}
 use Rattle.stepping.proofs.Starts.{startable, accepted-start}
 
 -- ---- The access rule
@@ -35,6 +36,12 @@ access-made = makes-access
 
 pub result-followed : (file cells others : List ℕ) (n i : ℕ) (t : Task) → FollowsResult file cells others n i t
 result-followed = follows-result
+
+pub row-access-made : (file cells : List ℕ) (row : List Task) (i : ℕ) → RowMakesAccess file cells row i
+row-access-made = row-makes-access
+
+pub row-result-followed : (file cells others : List ℕ) (row : List Task) (i : ℕ) → RowFollowsResult file cells others row i
+row-result-followed = row-follows-result
 
 -- A step looks at one cell, and touches no other.
 pub looks-at-one-cell : (file cells others : List ℕ) (n i : ℕ) (t : Task) → Local file cells others n i t
@@ -78,6 +85,15 @@ module _ {file : List ℕ} {n q : ℕ} {s : Store} (o : Opening file n q s) wher
         reading = λ reads. (access ∙ ap encodeAccess (z .reading reads .0), (_, same ∙ z .reading reads .1));
         ending = λ changes r c answered. access ∙ ap encodeAccess (z .ending changes r c (sym same ∙ answered));
       }
+
+-- ---- Other calls between those of a run
+
+-- Refused calls, and calls on other memory, leave the run as it is; an accepted start opens the next.
+pub runs-apart : (p : Places) → Between p
+runs-apart = between
+
+pub start-opens-next : (p : Places) → OpensNext p
+start-opens-next = opens-next
 
 -- Equal cells at rest tell equal states, and the other way round.
 pub independent : (b b′ : Object) (n q q′ c c′ : ℕ) (run run′ : Shown (List ℕ)) (d : Demand b n q c (image n) run) (d′ : Demand b′ n q′ c′ (image n) run′) → Independent b b′ n q q′ c c′ run run′ d d′

@@ -20,7 +20,7 @@ use Rattle.stepping.specs.declared.call.Answer.the-variants as step
 use Rattle.records.specs.Record.{readRecord}
 use Rattle.transition.specs.Transition.{planOf}
 use Rattle.stepping.specs.Step.{touched, foundOf, performOf}
-use Rattle.stepping.specs.Call.{admitOf, Stepped, stepTask}
+use Rattle.stepping.specs.Call.{admitOf, Stepped, stepTask, taskAt, stepOf}
 
 -- ---- The access, from the table, n and the record; a call that makes none counts as a read of the head
 
@@ -57,6 +57,17 @@ FollowsResult file cells others n i t =
     Unrefused (stepTask file cells n i t .answer) → Unrefused (stepTask file others n i t .answer)
     → givenBack cells (accessOf file n i t) ≡ givenBack others (accessOf file n i t)
     → (stepTask file cells n i t .answer ≡ stepTask file others n i t .answer) × (stepTask file cells n i t .task ≡ stepTask file others n i t .task)
+
+-- The same of a step on a row, by the record of its task.
+abbrev pub RowMakesAccess : (file cells : List ℕ) → List Task → ℕ → Type 0
+RowMakesAccess file cells row i =
+    Unrefused (stepOf file cells row i .answer) → stepOf file cells row i .cells ≡ performOf cells (accessOf file (length row) i (taskAt row i))
+
+abbrev pub RowFollowsResult : (file cells others : List ℕ) → List Task → ℕ → Type 0
+RowFollowsResult file cells others row i =
+    Unrefused (stepOf file cells row i .answer) → Unrefused (stepOf file others row i .answer)
+    → givenBack cells (accessOf file (length row) i (taskAt row i)) ≡ givenBack others (accessOf file (length row) i (taskAt row i))
+    → (stepOf file cells row i .answer ≡ stepOf file others row i .answer) × (stepOf file cells row i .row ≡ stepOf file others row i .row)
 
 -- Two outcomes with one answer and one record, which leave one word in cell k.
 pub record Alike (k : ℕ) (one other : Stepped) : Type 0 where

@@ -25,6 +25,7 @@ use Rattle.records.specs.declared.phase.PhaseRead.{PhaseRead}
 use Rattle.records.specs.declared.phase.PhaseRead.the-variants as record-phase
 use Rattle.machine.specs.Calls as paper
 use Rattle.transition.specs.declared.access.Access.{Access}
+use Rattle.transition.specs.declared.access.Next.{Next}
 use Rattle.stepping.specs.declared.call.Answer.{Answer}
 use Rattle.stepping.specs.declared.call.Answer.the-variants as step
 use Rattle.stepping.specs.declared.call.Admitted.{Admitted}
@@ -155,10 +156,14 @@ pub record Stepped : Type 0 where
 abbrev pub refuseStep : List ℕ → Task → Refusal → Stepped
 refuseStep cells t c = record { cells = cells; task = t; answer = step.Refused c }
 
+-- What a step leads to, by what its access gives back.
+abbrev pub ledTo : List ℕ → Shape → List ℕ → ℕ → Task → Phase → Access → Next
+ledTo file shape cells i t f a = nextOf file shape i (t .priority) t f (foundOf (getD cells (touched a) 0) a)
+
 -- An accepted step makes its access; record and answer follow from the old record and what came back.
 abbrev pub served : List ℕ → Shape → List ℕ → (n i : ℕ) → Task → Phase → Access → Stepped
 served file shape cells n i t f a =
-    let x = nextOf file shape i (t .priority) t f (foundOf (getD cells (touched a) 0) a) in
+    let x = ledTo file shape cells i t f a in
     record { cells = performOf cells a; task = advanceOf n t x; answer = answerOf t x }
 
 -- 12 on the touched cell, then 4 on the entry used.

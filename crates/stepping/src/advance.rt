@@ -43,7 +43,7 @@ fn stepped(
 }
 
 // The record after a step, and the answer; one that ended is idle. The count takes in this step.
-pub fn advance(tasks: usize, own: Task, next: Next) -> Step
+pub(crate) fn advance(tasks: usize, own: Task, next: Next) -> Step
     requires { ⌜ (0 < tasks) × (tasks < 256) × (own .steps < 1000000) ⌝ }
     ensures { λ r. ⌜ r ≡ record { task = advanceOf tasks own next; answer = answerOf own next } ⌝ }
 {

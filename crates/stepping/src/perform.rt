@@ -34,7 +34,7 @@ pub fn cell_in_form(shape: Shape, tasks: usize, cell: usize, word: u64) -> bool
 }
 
 // Makes an access; every cell but the touched one stays as it was.
-pub fn perform(cells: &mut [u64], access: Access) -> Found
+pub(crate) fn perform(cells: &mut [u64], access: Access) -> Found
     requires { ⌜ touched access < length (now cells) ⌝ }
     ensures { λ r. ⌜ (r ≡ foundOf (getD (now (cells .entry)) (touched access) 0) access) × (now (cells .exit) ≡ performOf (now (cells .entry)) access) ⌝ }
 {

@@ -1,10 +1,10 @@
 -- The access rule: a step that is not refused makes the access that was planned, and follows from what it gave back.
-use mathlib.Core.Path.{_≡_, refl}
+use mathlib.Core.Path.{_≡_, refl, ap}
 use mathlib.Core.Bool.{Bool, true, false, cond}
 use mathlib.Core.List.{List}
 use Prim.Native.Nat.{ℕ, _+_}
 use lib.Dec.{eqb, ltb}
-use lib.ListN.{length, getD}
+use lib.ListN.{length, getD, set}
 use Rattle.refusal.specs.declared.Refusal.{Refusal}
 use Rattle.refusal.specs.declared.Refusal.the-variants as cause
 use Rattle.table.specs.declared.Shape.{Shape}
@@ -18,8 +18,8 @@ use Rattle.transition.specs.Transition.{planOf, usedInRange}
 use Rattle.stepping.specs.declared.call.Admitted.{Admitted}
 use Rattle.stepping.specs.declared.call.Admitted.the-variants as admitted
 use Rattle.stepping.specs.Step.{touched, performOf, cellInForm}
-use Rattle.stepping.specs.Call.{admitOf, Stepped, refuseStep, touch, stepFrom, stepIn, stepTask}
-use Rattle.stepping.specs.Access.{accessFrom, accessIn, accessOf, Unrefused, givenBack, MakesAccess, FollowsResult}
+use Rattle.stepping.specs.Call.{admitOf, Stepped, refuseStep, touch, stepFrom, stepIn, stepTask, taskAt, stepOf}
+use Rattle.stepping.specs.Access.{accessFrom, accessIn, accessOf, Unrefused, givenBack, MakesAccess, FollowsResult, RowMakesAccess, RowFollowsResult}
 use Rattle.stepping.proofs.Refused.{choice}
 
 -- An outcome that made an access, unless it is refused.
@@ -99,3 +99,15 @@ module _ (file cells others : List ℕ) (n i : ℕ) (t : Task) where
   pub follows-result : FollowsResult file cells others n i t
   unfolding accessOf stepTask
   follows-result u v e = agree-in (admitOf file n) e .agree u v
+
+-- ---- On a row
+
+pub row-makes-access : (file cells : List ℕ) (row : List Task) (i : ℕ) → RowMakesAccess file cells row i
+unfolding stepOf
+row-makes-access file cells row i u = makes-access file cells (length row) i (taskAt row i) u
+
+pub row-follows-result : (file cells others : List ℕ) (row : List Task) (i : ℕ) → RowFollowsResult file cells others row i
+unfolding stepOf
+row-follows-result file cells others row i u v e =
+    let (answer, task) = follows-result file cells others (length row) i (taskAt row i) u v e in
+    (answer, ap (set row i) task)
