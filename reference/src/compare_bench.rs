@@ -4,7 +4,7 @@ use std::fs;
 use std::path::Path;
 
 use crate::bench::output_in_folder;
-use crate::process::{find_program, run_in_folder};
+use crate::process::{find_program, run_in_folder, run_in_pieces};
 use crate::script_cases::{fixed_scripts, random_script, Script};
 
 pub const RANDOM_SCRIPTS: u64 = 2_200;
@@ -25,7 +25,7 @@ pub fn compare_bench(path: &str, random_scripts: u64) -> Result<String, String> 
         scripts += 1;
         lines += script.input.split(|&byte| byte == b'\n').count();
         let equal = make_folder(&folder, &script)
-            .and_then(|()| is_equal(&program, &folder))
+            .and_then(|()| is_equal(&program, &folder, script.piece))
             .map_err(|message| format!("{}: {message}", script.name))?;
         match equal {
             true => remove(&folder)?,
@@ -54,9 +54,12 @@ fn make_folder(folder: &Path, script: &Script) -> Result<(), String> {
 }
 
 /// Whether both print the same; if not, both outputs are kept beside the input.
-fn is_equal(program: &Path, folder: &Path) -> Result<bool, String> {
+fn is_equal(program: &Path, folder: &Path, piece: Option<usize>) -> Result<bool, String> {
     let ours = output_in_folder(folder)?;
-    let theirs = run_in_folder(program, folder)?;
+    let theirs = match piece {
+        Some(length) => run_in_pieces(program, folder, length)?,
+        None => run_in_folder(program, folder)?,
+    };
     let equal = theirs == ours.as_bytes();
     if !equal {
         fs::write(folder.join("ours"), ours).map_err(|error| error.to_string())?;

@@ -27,6 +27,7 @@ mod potential;
 mod process;
 pub mod random;
 mod random_runs;
+mod reading_cases;
 pub mod record;
 mod reduced;
 mod reduced_graph;

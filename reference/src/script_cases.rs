@@ -2,6 +2,7 @@
 
 use crate::bench::Bench;
 use crate::random::Random;
+use crate::reading_cases::reading_scripts;
 use crate::table_cases::{random_case, random_table};
 use crate::table_file::TableFile;
 
@@ -10,9 +11,12 @@ pub struct Script {
     /// No table file at all, if there is none.
     pub table: Option<Vec<u8>>,
     pub input: Vec<u8>,
+    /// How many bytes of the input are written to a pipe at a time; without a number the input is a file.
+    pub piece: Option<usize>,
 }
 
-const LISTING: &str = "n 2\nb 0 1\nd 0\nb 1 0\ns 1\nb 1 2\nm\nd 1\nm\n";
+/// The input of the listing in document 01.
+pub const LISTING: &str = "n 2\nb 0 1\nd 0\nb 1 0\ns 1\nb 1 2\nm\nd 1\nm\n";
 
 /// The cases of document 01 and the forms of lines, mostly over the flag object.
 pub fn fixed_scripts() -> Vec<Script> {
@@ -21,10 +25,11 @@ pub fn fixed_scripts() -> Vec<Script> {
     for (name, input) in flag_inputs() {
         scripts.push(script(name, Some(flag.clone()), &input));
     }
+    scripts.extend(reading_scripts());
     scripts
 }
 
-/// Tables that are absent, empty, too long, or at the limit of their text.
+/// Tables that are absent, empty, or at the limit of their text.
 fn table_scripts() -> Vec<Script> {
     let with_text = |length: usize| TableFile::flag().with_text(vec![b'#'; length]).to_bytes();
     vec![
@@ -33,8 +38,6 @@ fn table_scripts() -> Vec<Script> {
         script("empty table", Some(Vec::new()), "n 1\n"),
         script("offset 4096", Some(with_text(4_096)), LISTING),
         script("offset 4097", Some(with_text(4_097)), LISTING),
-        script("table of 20497 bytes", Some(vec![0; 20_497]), LISTING),
-        script("table of 30000 bytes", Some(vec![0; 30_000]), LISTING),
     ]
 }
 
@@ -65,11 +68,13 @@ fn flag_inputs() -> Vec<(&'static str, String)> {
     ]
 }
 
-fn script(name: &str, table: Option<Vec<u8>>, input: &str) -> Script {
+/// A script whose input is a file.
+pub fn script(name: &str, table: Option<Vec<u8>>, input: &str) -> Script {
     Script {
         name: name.to_string(),
         table,
         input: input.as_bytes().to_vec(),
+        piece: None,
     }
 }
 
@@ -113,6 +118,7 @@ pub fn random_script(seed: u64) -> Script {
         name: format!("seed {seed}"),
         table,
         input,
+        piece: None,
     }
 }
 

@@ -10,7 +10,7 @@ use lib.Dec.{leb, ltb, eqb}
 use lib.ListN.{length, take, drop, getD, length-drop}
 use lib.Seq.{take-all, length-take-le, getD-take}
 use Rattle.bytes.specs.Bytes.{indexOf, indexAfter}
-use Rattle.bench_lines.specs.Command.{Fields, last, more, space, lengthened, fieldsOf, numberOf, digitsOf, zeroDigit, nineDigit, isDigit, letterOf, withOne, withTwo, afterNumber, afterLetter, alone, commandIn, commandOf}
+use Rattle.bench_lines.specs.Command.{Fields, last, more, space, lengthened, fieldsOf, decimalOf, digitsOf, zeroDigit, nineDigit, isDigit, letterOf, withOne, withTwo, afterNumber, afterLetter, alone, commandIn, commandOf}
 use Rattle.bench_lines.specs.declared.command.Number.{Number}
 use Rattle.bench_lines.specs.declared.command.Number.the-variants.{Of, Nothing}
 use Rattle.bench_lines.specs.declared.command.Command.the-variants.{Unknown}
@@ -52,30 +52,30 @@ digit-range b e =
     (leb-true zeroDigit b (both .0), leb-true b nineDigit (both .1))
 
 -- A number by its length.
-pub number-of-one : (field : List ℕ) → length field ≡ 1 → numberOf field ≡ digitsOf zeroDigit zeroDigit (getD field 0 0)
-number-of-one [] h = absurd (omega arith)
-number-of-one (c ∷ []) h = refl
-number-of-one (b ∷ c ∷ ds) h = absurd (omega arith)
+pub decimal-of-one : (field : List ℕ) → length field ≡ 1 → decimalOf field ≡ digitsOf zeroDigit zeroDigit (getD field 0 0)
+decimal-of-one [] h = absurd (omega arith)
+decimal-of-one (c ∷ []) h = refl
+decimal-of-one (b ∷ c ∷ ds) h = absurd (omega arith)
 
-pub number-of-two : (field : List ℕ) → length field ≡ 2 → numberOf field ≡ digitsOf zeroDigit (getD field 0 0) (getD field 1 0)
-number-of-two [] h = absurd (omega arith)
-number-of-two (c ∷ []) h = absurd (omega arith)
-number-of-two (b ∷ c ∷ []) h = refl
-number-of-two (a ∷ b ∷ c ∷ ds) h = absurd (omega arith)
+pub decimal-of-two : (field : List ℕ) → length field ≡ 2 → decimalOf field ≡ digitsOf zeroDigit (getD field 0 0) (getD field 1 0)
+decimal-of-two [] h = absurd (omega arith)
+decimal-of-two (c ∷ []) h = absurd (omega arith)
+decimal-of-two (b ∷ c ∷ []) h = refl
+decimal-of-two (a ∷ b ∷ c ∷ ds) h = absurd (omega arith)
 
-pub number-of-three : (field : List ℕ) → length field ≡ 3 → numberOf field ≡ digitsOf (getD field 0 0) (getD field 1 0) (getD field 2 0)
-number-of-three [] h = absurd (omega arith)
-number-of-three (c ∷ []) h = absurd (omega arith)
-number-of-three (b ∷ c ∷ []) h = absurd (omega arith)
-number-of-three (a ∷ b ∷ c ∷ []) h = refl
-number-of-three (a ∷ b ∷ c ∷ d ∷ ds) h = absurd (omega arith)
+pub decimal-of-three : (field : List ℕ) → length field ≡ 3 → decimalOf field ≡ digitsOf (getD field 0 0) (getD field 1 0) (getD field 2 0)
+decimal-of-three [] h = absurd (omega arith)
+decimal-of-three (c ∷ []) h = absurd (omega arith)
+decimal-of-three (b ∷ c ∷ []) h = absurd (omega arith)
+decimal-of-three (a ∷ b ∷ c ∷ []) h = refl
+decimal-of-three (a ∷ b ∷ c ∷ d ∷ ds) h = absurd (omega arith)
 
-pub number-of-none : (field : List ℕ) → (length field ≡ 1 → ⊥) → (length field ≡ 2 → ⊥) → (length field ≡ 3 → ⊥) → numberOf field ≡ Nothing
-number-of-none [] x y z = refl
-number-of-none (c ∷ []) x y z = absurd (x refl)
-number-of-none (b ∷ c ∷ []) x y z = absurd (y refl)
-number-of-none (a ∷ b ∷ c ∷ []) x y z = absurd (z refl)
-number-of-none (a ∷ b ∷ c ∷ d ∷ ds) x y z = refl
+pub decimal-of-none : (field : List ℕ) → (length field ≡ 1 → ⊥) → (length field ≡ 2 → ⊥) → (length field ≡ 3 → ⊥) → decimalOf field ≡ Nothing
+decimal-of-none [] x y z = refl
+decimal-of-none (c ∷ []) x y z = absurd (x refl)
+decimal-of-none (b ∷ c ∷ []) x y z = absurd (y refl)
+decimal-of-none (a ∷ b ∷ c ∷ []) x y z = absurd (z refl)
+decimal-of-none (a ∷ b ∷ c ∷ d ∷ ds) x y z = refl
 
 -- Without a letter there is no form.
 no-form-with-one : (value : Number) → withOne 0 value ≡ Unknown
@@ -88,12 +88,12 @@ no-form-with-two (Of v) Nothing = refl
 no-form-with-two Nothing second = refl
 
 no-form-after-number : (first : Number) (rest : Fields) → afterNumber 0 first rest ≡ Unknown
-no-form-after-number first (last g) = no-form-with-two first (numberOf g)
+no-form-after-number first (last g) = no-form-with-two first (decimalOf g)
 no-form-after-number first (more g rest) = refl
 
 pub no-form : (rest : Fields) → afterLetter 0 rest ≡ Unknown
-no-form (last f) = no-form-with-one (numberOf f)
-no-form (more f rest) = no-form-after-number (numberOf f) rest
+no-form (last f) = no-form-with-one (decimalOf f)
+no-form (more f rest) = no-form-after-number (decimalOf f) rest
 
 -- A letter by its field's length.
 pub letter-of-one : (field : List ℕ) → length field ≡ 1 → letterOf field ≡ getD field 0 0

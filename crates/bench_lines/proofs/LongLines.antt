@@ -10,8 +10,8 @@ use lib.ListN.{length}
 use Rattle.bench_lines.specs.declared.command.Number.{Number}
 use Rattle.bench_lines.specs.declared.command.Number.the-variants.{Of, Nothing}
 use Rattle.bench_lines.specs.declared.command.Command.the-variants.{Unknown}
-use Rattle.bench_lines.specs.Command.{Fields, last, more, space, lengthened, fieldsOf, numberOf, letterOf, withTwo, afterNumber, afterLetter, commandIn, commandOf}
-use Rattle.bench_lines.proofs.Fields.{number-of-none, no-letter, no-form}
+use Rattle.bench_lines.specs.Command.{Fields, last, more, space, lengthened, fieldsOf, decimalOf, letterOf, withTwo, afterNumber, afterLetter, commandIn, commandOf}
+use Rattle.bench_lines.proofs.Fields.{decimal-of-none, no-letter, no-form}
 
 -- The bytes of a line with these fields.
 abbrev size : Fields → ℕ
@@ -31,8 +31,8 @@ size-fields (b ∷ line) = at (eqb b space) refl (size-fields line)
     at true e rest = rw e (omega arith)
     at false e rest = rw e (omega (arith, size-lengthened b (fieldsOf line)))
 
-long-number : (field : List ℕ) → 3 < length field → numberOf field ≡ Nothing
-long-number field h = number-of-none field (λ e. omega arith) (λ e. omega arith) (λ e. omega arith)
+long-number : (field : List ℕ) → 3 < length field → decimalOf field ≡ Nothing
+long-number field h = decimal-of-none field (λ e. omega arith) (λ e. omega arith) (λ e. omega arith)
 
 no-second : (letter : ℕ) (first : Number) → withTwo letter first Nothing ≡ Unknown
 no-second letter (Of v) = refl
@@ -50,9 +50,9 @@ long-after-letter : (letter : ℕ) (rest : Fields) → 7 < size rest → afterLe
 long-after-letter letter (last f) h = rw (long-number f (omega arith)) refl
 long-after-letter letter (more f rest) h = at (ltb 3 (length f)) refl
   where
-    at : (t : Bool) → ltb 3 (length f) ≡ t → afterNumber letter (numberOf f) rest ≡ Unknown
+    at : (t : Bool) → ltb 3 (length f) ≡ t → afterNumber letter (decimalOf f) rest ≡ Unknown
     at true e = rw (long-number f (ltb-true 3 (length f) e)) (no-first letter rest)
-    at false e = long-second letter (numberOf f) rest (omega (arith, ltb-false 3 (length f) e))
+    at false e = long-second letter (decimalOf f) rest (omega (arith, ltb-false 3 (length f) e))
 
 long-fields : (fields : Fields) → 9 < size fields → commandIn fields ≡ Unknown
 long-fields (last f) h = rw (no-letter f (λ e. omega arith)) refl

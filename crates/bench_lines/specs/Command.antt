@@ -49,12 +49,12 @@ digitsOf a b c =
     cond (isDigit a && isDigit b && isDigit c) (Of (100 * (a - zeroDigit) + 10 * (b - zeroDigit) + (c - zeroDigit))) Nothing
 
 -- A number has one to three digits.
-abbrev pub numberOf : List ℕ → Number
-numberOf [] = Nothing
-numberOf (c ∷ []) = digitsOf zeroDigit zeroDigit c
-numberOf (b ∷ c ∷ []) = digitsOf zeroDigit b c
-numberOf (a ∷ b ∷ c ∷ []) = digitsOf a b c
-numberOf (a ∷ b ∷ c ∷ d ∷ ds) = Nothing
+abbrev pub decimalOf : List ℕ → Number
+decimalOf [] = Nothing
+decimalOf (c ∷ []) = digitsOf zeroDigit zeroDigit c
+decimalOf (b ∷ c ∷ []) = digitsOf zeroDigit b c
+decimalOf (a ∷ b ∷ c ∷ []) = digitsOf a b c
+decimalOf (a ∷ b ∷ c ∷ d ∷ ds) = Nothing
 
 -- The letter of a field of one byte; of any other it is 0, with which no form begins.
 abbrev pub letterOf : List ℕ → ℕ
@@ -81,13 +81,13 @@ withTwo letter Nothing second = Unknown
 
 -- After a letter and a number come the second number, or more fields than a form has.
 abbrev pub afterNumber : ℕ → Number → Fields → Command
-afterNumber letter first (last g) = withTwo letter first (numberOf g)
+afterNumber letter first (last g) = withTwo letter first (decimalOf g)
 afterNumber letter first (more g rest) = Unknown
 
 -- After a letter come one number or two.
 abbrev pub afterLetter : ℕ → Fields → Command
-afterLetter letter (last f) = withOne letter (numberOf f)
-afterLetter letter (more f rest) = afterNumber letter (numberOf f) rest
+afterLetter letter (last f) = withOne letter (decimalOf f)
+afterLetter letter (more f rest) = afterNumber letter (decimalOf f) rest
 
 -- A line begins with its letter.
 abbrev pub commandIn : Fields → Command

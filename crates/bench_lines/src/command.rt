@@ -3,7 +3,7 @@ ghost use mathlib.Core.Path.{_≡_};
 ghost use Prim.Native.Nat.{_≤_};
 ghost use lib.ListN.{length};
 ghost use Rattle.bytes.specs.Bytes.{indexOf};
-ghost use Rattle.bench_lines.specs.Command.{space, isDigit, digitsOf, numberOf, fieldsOf, alone, withOne, withTwo, afterNumber, afterLetter, commandOf};
+ghost use Rattle.bench_lines.specs.Command.{space, isDigit, digitsOf, decimalOf, fieldsOf, alone, withOne, withTwo, afterNumber, afterLetter, commandOf};
 
 pub enum Command {
     Start { tasks: u16 },
@@ -50,7 +50,7 @@ fn three_digits(hundreds: u8, tens: u8, ones: u8) -> Number
 
 // The number of one to three digits that a field writes.
 fn read_number(field: &[u8]) -> Number
-    ensures { λ r. ⌜ r ≡ numberOf (now (field .entry)) ⌝ }
+    ensures { λ r. ⌜ r ≡ decimalOf (now (field .entry)) ⌝ }
 {
     match field.len() {
         1 => three_digits(b'0', b'0', field[0]),

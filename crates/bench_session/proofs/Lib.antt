@@ -1,3 +1,10 @@
 pub mod Runs
 pub mod Held
 pub mod Feeds
+pub mod Ends
+pub mod Outputs
+pub mod Openings
+pub mod Situations
+pub mod Started
+pub mod Consistency
+pub mod Theorem

@@ -10,36 +10,36 @@ use Rattle.bench_lines.specs.declared.command.Command.{Command}
 use Rattle.bench_lines.specs.declared.reply.Reply.{Reply}
 use Rattle.bench_session.specs.declared.run.Bench.{Bench}
 use Rattle.bench_session.specs.declared.run.Printed.{Printed}
-use Rattle.bench_session.specs.declared.run.Served.{Served}
-use Rattle.bench_session.specs.Run.{runsOn, finishFrom, stepBench, Shown, Shows, shown, refuseLine, actOf, isStart, serveOf}
+use Rattle.bench_session.specs.declared.run.Handled.{Handled}
+use Rattle.bench_session.specs.Run.{runsOn, finishFrom, stepBench, Printing, Prints, replyPrinted, refuseLine, actOf, isStart, serveOf}
 
 -- A bench and a reply as they are served.
 abbrev pub benchOf : List ℕ → List Task → ℕ → Bench
 benchOf cells row n = record { cells = cells; row = row; tasks = n }
 
-abbrev pub servedAs : Bench → Reply → Served
-servedAs bench reply = record { bench = bench; reply = reply }
+abbrev pub handledAs : Bench → Reply → Handled
+handledAs bench reply = record { bench = bench; reply = reply }
 
 -- A step that answered running is followed by another.
-pub finish-more : (k : ℕ) (file : List ℕ) (t : ℕ) (out : Served) → 0 < k → runsOn (out .reply) ≡ true
+pub finish-more : (k : ℕ) (file : List ℕ) (t : ℕ) (out : Handled) → 0 < k → runsOn (out .reply) ≡ true
     → finishFrom k file t out ≡ finishFrom (k - 1) file t (stepBench file (out .bench) t)
 unfolding finishFrom
 finish-more zero file t out h e = absurd (omega arith)
 finish-more (suc k) file t out h e = let z : suc k - 1 ≡ k = omega arith in rw (e, z)
 
 -- Another answer is the last.
-pub finish-last : (k : ℕ) (file : List ℕ) (t : ℕ) (out : Served) → runsOn (out .reply) ≡ false → finishFrom k file t out ≡ out
+pub finish-last : (k : ℕ) (file : List ℕ) (t : ℕ) (out : Handled) → runsOn (out .reply) ≡ false → finishFrom k file t out ≡ out
 unfolding finishFrom
 finish-last zero file t out e = refl
 finish-last (suc k) file t out e = rw e
 
-pub finish-none : (k : ℕ) (file : List ℕ) (t : ℕ) (out : Served) → k ≡ 0 → finishFrom k file t out ≡ out
+pub finish-none : (k : ℕ) (file : List ℕ) (t : ℕ) (out : Handled) → k ≡ 0 → finishFrom k file t out ≡ out
 unfolding finishFrom
 finish-none k file t out e = rw e
 
 -- The same under another name.
-pub shows-as : (r : Printed) (out other : Shown) → out ≡ other → Shows r out → Shows r other
-shows-as r out other e = subst (λ (s : Shown). Shows r s) e
+pub prints-as : (r : Printed) (out other : Printing) → out ≡ other → Prints r out → Prints r other
+prints-as r out other e = subst (λ (s : Printing). Prints r s) e
 
 -- On a run, and for a start, a command is served as it stands; else it is refused.
 pub serve-run : (file : List ℕ) (bench : Bench) (command : Command) → (bench .tasks ≡ 0 → ⊥) → actOf file bench command ≡ serveOf file bench command
@@ -50,6 +50,6 @@ pub serve-start : (file : List ℕ) (bench : Bench) (command : Command) → isSt
 unfolding serveOf
 serve-start file bench command e = simp (e, and-false)
 
-pub serve-refused : (file : List ℕ) (bench : Bench) (command : Command) → bench .tasks ≡ 0 → isStart command ≡ false → shown (refuseLine bench) ≡ serveOf file bench command
+pub serve-refused : (file : List ℕ) (bench : Bench) (command : Command) → bench .tasks ≡ 0 → isStart command ≡ false → replyPrinted (refuseLine bench) ≡ serveOf file bench command
 unfolding serveOf
 serve-refused file bench command h e = simp (eq-eqb (bench .tasks) 0 h, e)

@@ -25,8 +25,9 @@ use Rattle.bench_lines.specs.declared.command.Command.{Command}
 use Rattle.bench_lines.specs.declared.command.Command.the-variants as command
 use Rattle.bench_lines.specs.declared.reply.Reply.{Reply}
 use Rattle.bench_lines.specs.declared.reply.Reply.the-variants as reply
+use Rattle.bench_lines.specs.declared.reply.Text.{Text}
 use Rattle.bench_session.specs.declared.run.Bench.{Bench}
-use Rattle.bench_session.specs.declared.run.Served.{Served}
+use Rattle.bench_session.specs.declared.run.Handled.{Handled}
 use Rattle.bench_session.specs.declared.run.Stepped.{Stepped}
 use Rattle.bench_session.specs.declared.run.Printed.{Printed}
 use Rattle.bench_lines.specs.Line.{replyLine, cellsLine}
@@ -42,7 +43,7 @@ cellCount n = cond (ltb n 9) (n + 1) 9
 -- ---- `n k`: an accepted start opens another run; a refused one leaves the present run as it is
 
 -- What a start leaves and answers, by its answer.
-abbrev pub opened : Bench → ℕ → Shape → Started → StartAnswer → Served
+abbrev pub opened : Bench → ℕ → Shape → Started → StartAnswer → Handled
 opened bench k shape out start.Started = record {
   bench = record { cells = out .cells; row = out .row; tasks = k };
   reply = reply.Started k (shape .states) (shape .operations);
@@ -50,7 +51,7 @@ opened bench k shape out start.Started = record {
 opened bench k shape out (start.Refused c) = record { bench = bench; reply = reply.Refused c }
 
 -- The states and operations that it prints are those of the trailer.
-abbrev pub openedBy : List ℕ → Bench → ℕ → Started → Served
+abbrev pub openedBy : List ℕ → Bench → ℕ → Started → Handled
 openedBy file bench k out = opened bench k (shapeOf file) out (out .answer)
 
 -- A start on the first of the cells and of the records; the others remain.
@@ -62,7 +63,7 @@ unfoldable pub startHeld : (file cells : List ℕ) → List Task → ℕ → Sta
 startHeld file cells row k = startAfter (cellCount k) cells (startFirst file (take (cellCount k) cells) row k)
 
 -- `n k` on the bench.
-unfoldable pub startBench : List ℕ → Bench → ℕ → Served
+unfoldable pub startBench : List ℕ → Bench → ℕ → Handled
 startBench file bench k = openedBy file bench k (startHeld file (bench .cells) (bench .row) k)
 
 -- ---- `b t o`: an accepted begin prints nothing
@@ -73,12 +74,12 @@ beginReply begin.Begun = reply.Silent
 beginReply (begin.Refused c) = reply.Refused c
 
 -- A begin changes the records alone.
-abbrev pub beginAfter : Bench → Begun → Served
+abbrev pub beginAfter : Bench → Begun → Handled
 beginAfter bench out =
     record { bench = record { cells = bench .cells; row = out .row; tasks = bench .tasks }; reply = beginReply (out .answer) }
 
 -- `b t o` on the bench.
-unfoldable pub beginBench : List ℕ → Bench → (t o : ℕ) → Served
+unfoldable pub beginBench : List ℕ → Bench → (t o : ℕ) → Handled
 beginBench file bench t o = beginAfter bench (beginFirst file (bench .row) (bench .tasks) t o)
 
 -- ---- `s t`: a step that answers running prints nothing
@@ -99,11 +100,11 @@ unfoldable pub stepHeld : (file cells : List ℕ) → List Task → (n t : ℕ) 
 stepHeld file cells row n t = heldAfter (cellCount n) cells n (stepFirst file (take (cellCount n) cells) row n t)
 
 -- What a step leaves and prints.
-abbrev pub stepAfter : ℕ → Stepped → Served
+abbrev pub stepAfter : ℕ → Stepped → Handled
 stepAfter t out = record { bench = out .bench; reply = stepReply t (out .answer) }
 
 -- `s t` on the bench.
-unfoldable pub stepBench : List ℕ → Bench → ℕ → Served
+unfoldable pub stepBench : List ℕ → Bench → ℕ → Handled
 stepBench file bench t = stepAfter t (stepHeld file (bench .cells) (bench .row) (bench .tasks) t)
 
 -- ---- `d t`: steps until one ends the operation or is refused, at most k after the first
@@ -116,7 +117,7 @@ runsOn (reply.Ended t r) = false
 runsOn (reply.Refused c) = false
 
 -- After a step that answered running comes another one.
-unfoldable pub finishFrom : ℕ → List ℕ → ℕ → Served → Served
+unfoldable pub finishFrom : ℕ → List ℕ → ℕ → Handled → Handled
 finishFrom zero file t out = out
 finishFrom (suc k) file t out = cond (runsOn (out .reply)) (finishFrom k file t (stepBench file (out .bench) t)) out
 
@@ -129,36 +130,36 @@ unfolding mostTurns
 most-turns = refl
 
 -- A first step, and as many more as that.
-abbrev pub finishBench : List ℕ → Bench → ℕ → Served
+abbrev pub finishBench : List ℕ → Bench → ℕ → Handled
 finishBench file bench t = finishFrom mostTurns file t (stepBench file bench t)
 
 -- ---- A command
 
 -- What is left and what is printed.
-pub record Shown : Type 0 where
+pub record Printing : Type 0 where
   pub bench : Bench
   pub text : List ℕ
 
 -- The line of a reply is printed.
-abbrev pub shown : Served → Shown
-shown out = record { bench = out .bench; text = replyLine (out .reply) }
+abbrev pub replyPrinted : Handled → Printing
+replyPrinted out = record { bench = out .bench; text = replyLine (out .reply) }
 
 -- The line of the run's cells is printed.
-abbrev pub shownCells : Bench → Shown
-shownCells bench = record { bench = bench; text = cellsLine (take (cellCount (bench .tasks)) (bench .cells)) }
+abbrev pub cellsPrinted : Bench → Printing
+cellsPrinted bench = record { bench = bench; text = cellsLine (take (cellCount (bench .tasks)) (bench .cells)) }
 
 -- A line of no known form is refused with 13.
-abbrev pub refuseLine : Bench → Served
+abbrev pub refuseLine : Bench → Handled
 refuseLine bench = record { bench = bench; reply = reply.Refused cause.Line }
 
 -- A command by its form.
-abbrev pub actOf : List ℕ → Bench → Command → Shown
-actOf file bench (command.Start k) = shown (startBench file bench k)
-actOf file bench (command.Begin t o) = shown (beginBench file bench t o)
-actOf file bench (command.Step t) = shown (stepBench file bench t)
-actOf file bench (command.Finish t) = shown (finishBench file bench t)
-actOf file bench command.Print = shownCells bench
-actOf file bench command.Unknown = shown (refuseLine bench)
+abbrev pub actOf : List ℕ → Bench → Command → Printing
+actOf file bench (command.Start k) = replyPrinted (startBench file bench k)
+actOf file bench (command.Begin t o) = replyPrinted (beginBench file bench t o)
+actOf file bench (command.Step t) = replyPrinted (stepBench file bench t)
+actOf file bench (command.Finish t) = replyPrinted (finishBench file bench t)
+actOf file bench command.Print = cellsPrinted bench
+actOf file bench command.Unknown = replyPrinted (refuseLine bench)
 
 -- Whether a command is `n k`.
 abbrev pub isStart : Command → Bool
@@ -170,10 +171,13 @@ isStart command.Print = false
 isStart command.Unknown = false
 
 -- Before an accepted start every other command is refused with 13 too.
-unfoldable pub serveOf : List ℕ → Bench → Command → Shown
-serveOf file bench c = cond (eqb (bench .tasks) 0 && not (isStart c)) (shown (refuseLine bench)) (actOf file bench c)
+unfoldable pub serveOf : List ℕ → Bench → Command → Printing
+serveOf file bench c = cond (eqb (bench .tasks) 0 && not (isStart c)) (replyPrinted (refuseLine bench)) (actOf file bench c)
 
--- What a printed text and the bench beside it show: the text's bytes, with its count within the buffer.
-abbrev pub Shows : Printed → Shown → Type 0
-Shows r out =
-    (r .bench ≡ out .bench) × (Counts (r .text .len) (r .text .bytes) × (take (r .text .len) (r .text .bytes) ≡ out .text))
+-- A text spells these bytes: they are its first ones, with its count within the buffer.
+abbrev pub Spells : Text → List ℕ → Type 0
+Spells text bytes = Counts (text .len) (text .bytes) × (take (text .len) (text .bytes) ≡ bytes)
+
+-- The bench that is left, and the text that is printed.
+abbrev pub Prints : Printed → Printing → Type 0
+Prints r out = (r .bench ≡ out .bench) × Spells (r .text) (out .text)

@@ -1,32 +1,49 @@
-// What the bench reads: the table, then the input to its end.
+// The system calls of the bench: the table and the input are read, and the texts are printed in their order.
 use crate::output;
 use crate::session;
 use crate::session::Session;
-use bench_lines::reply;
-use bench_lines::reply::Reply;
 use libc::STDIN_FILENO;
-use table::Checked;
 ghost use Rattle.io.specs.Counts.{Counts};
+ghost use Rattle.bench_session.specs.Session.{Fed, Follows, Continues, Reached, feed};
 
 // The session after a part of the input, and whether there may be more.
-pub struct Part {
-    pub session: Session,
-    pub more: bool,
+struct Part {
+    session: Session,
+    more: bool,
+}
+
+// A part of the input, byte by byte.
+fn take_all(file: &[u8], session: Session, bytes: &[u8]) -> Session
+    ensures { λ r. ⌜ ((fed : Fed) → Follows fed session → Follows (feed (now (file .entry)) fed (now (bytes .entry)) .fed) r) ⌝ }
+{
+    let mut held = session;
+    let mut i = 0;
+    while i < bytes.len() {
+        let taken = session::take_in(file, held, bytes[i]);
+        output::print(taken.text);
+        held = taken.session;
+        i += 1;
+    }
+    held
 }
 
 // One read of the input. An error counts as the end.
-fn read_part(file: &[u8], session: Session) -> Part {
+fn read_part(file: &[u8], session: Session) -> Part
+    ensures { λ r. ⌜ Continues (now (file .entry)) session (r .session) ⌝ }
+{
     let mut buffer = io::buffer();
     let got = libc::read(STDIN_FILENO, &mut buffer);
     let count = io::count(got, &buffer);
     Part {
-        session: session::take_all(file, session, &buffer[..count]),
+        session: take_all(file, session, &buffer[..count]),
         more: count > 0,
     }
 }
 
-// All lines. Nothing says that the input ends, so the loop counts down from a number of reads that no input reaches.
-fn serve_input(file: &[u8]) {
+// The input to its end. Nothing says that it ends, so the loop counts down from a number of reads that no input reaches.
+fn read_all(file: &[u8]) -> Session
+    ensures { λ r. ⌜ Reached (now (file .entry)) r ⌝ }
+{
     let mut session = session::begin();
     let mut turns = u64::MAX;
     let mut more = true;
@@ -36,17 +53,15 @@ fn serve_input(file: &[u8]) {
         session = part.session;
         more = part.more;
     }
-    if session.len > 0 {
-        session::end_line(file, session);
-    }
+    session
 }
 
-// The table is tested before the first line; of one that is not served the number alone is printed.
-fn serve_table(file: &[u8]) {
-    let checked = table::check(file);
-    match checked {
-        Checked::Refused(cause) => output::print(reply::reply_line(Reply::Refused(cause))),
-        Checked::Accepted(_) => serve_input(file),
+// The table is tested first. Without one that is served no line is read.
+fn serve_file(file: &[u8]) {
+    let tested = session::test_table(file);
+    output::print(tested.text);
+    if tested.served {
+        output::print(session::finish(file, read_all(file)));
     }
 }
 
@@ -67,5 +82,5 @@ fn read_table(room: &mut [u8]) -> usize
 pub fn serve_all() {
     let mut room = [0u8; 20497];
     let len = read_table(&mut room);
-    serve_table(&room[..len]);
+    serve_file(&room[..len]);
 }

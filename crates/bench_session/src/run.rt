@@ -12,9 +12,8 @@ use stepping::call::StartAnswer;
 ghost use mathlib.Core.Path.{_≡_};
 ghost use Prim.Native.Nat.{_≤_};
 ghost use lib.ListN.{take};
-ghost use Rattle.io.specs.Counts.{Counts};
 ghost use Rattle.bench_lines.specs.Line.{cellsLine};
-ghost use Rattle.bench_session.specs.Run.{unstartedBench, cellCount, startHeld, startBench, beginReply, beginBench, stepReply, stepHeld, stepBench, runsOn, finishBench, refuseLine, shown, shownCells, actOf, isStart, serveOf, Shows};
+ghost use Rattle.bench_session.specs.Run.{unstartedBench, cellCount, startHeld, startBench, beginReply, beginBench, stepReply, stepHeld, stepBench, runsOn, finishBench, refuseLine, replyPrinted, cellsPrinted, actOf, isStart, serveOf, Spells, Prints};
 
 // As many cells as the greatest run has, and as many records: one more, so that a row of nine can be lent and is refused.
 const MOST_CELLS: usize = 9;
@@ -37,7 +36,7 @@ pub struct Opened {
 }
 
 // What is left after a line, and what is answered.
-pub struct Served {
+pub struct Handled {
     pub bench: Bench,
     pub reply: Reply,
 }
@@ -94,7 +93,7 @@ fn start_held(file: &[u8], cells: [u64; 9], row: [Task; 9], tasks: usize) -> Ope
 }
 
 // An accepted start opens another run; a refused one leaves the present run as it is.
-fn start(file: &[u8], bench: Bench, tasks: u16) -> Served
+fn start(file: &[u8], bench: Bench, tasks: u16) -> Handled
     ensures { λ r. ⌜ r ≡ startBench (now (file .entry)) bench tasks ⌝ }
 {
     let cells = bench.cells;
@@ -102,7 +101,7 @@ fn start(file: &[u8], bench: Bench, tasks: u16) -> Served
     let opened = start_held(file, cells, row, tasks as usize);
     let answer = opened.answer;
     match answer {
-        StartAnswer::Refused(cause) => Served {
+        StartAnswer::Refused(cause) => Handled {
             bench,
             reply: Reply::Refused(cause),
         },
@@ -110,7 +109,7 @@ fn start(file: &[u8], bench: Bench, tasks: u16) -> Served
             let shape = table::read_shape(file);
             let image = opened.cells;
             let idle = opened.row;
-            Served {
+            Handled {
                 bench: Bench {
                     cells: image,
                     row: idle,
@@ -136,7 +135,7 @@ fn begin_reply(answer: BeginAnswer) -> Reply
     }
 }
 
-fn begin(file: &[u8], bench: Bench, task: u16, operation: u16) -> Served
+fn begin(file: &[u8], bench: Bench, task: u16, operation: u16) -> Handled
     ensures { λ r. ⌜ r ≡ beginBench (now (file .entry)) bench task operation ⌝ }
 {
     let cells = bench.cells;
@@ -145,7 +144,7 @@ fn begin(file: &[u8], bench: Bench, task: u16, operation: u16) -> Served
     let begun = bench_row::begin_first(file, row, tasks, task as usize, operation as usize);
     let changed = begun.row;
     let answer = begun.answer;
-    Served {
+    Handled {
         bench: Bench {
             cells,
             row: changed,
@@ -185,7 +184,7 @@ fn step_reply(task: u16, answer: Answer) -> Reply
     }
 }
 
-fn step(file: &[u8], bench: Bench, task: u16) -> Served
+fn step(file: &[u8], bench: Bench, task: u16) -> Handled
     ensures { λ r. ⌜ r ≡ stepBench (now (file .entry)) bench task ⌝ }
 {
     let cells = bench.cells;
@@ -193,17 +192,17 @@ fn step(file: &[u8], bench: Bench, task: u16) -> Served
     let stepped = step_held(file, cells, row, bench.tasks, task as usize);
     let left = stepped.bench;
     let answer = stepped.answer;
-    Served {
+    Handled {
         bench: left,
         reply: step_reply(task, answer),
     }
 }
 
 // Whether a step has answered running.
-fn runs_on(served: Served) -> bool
-    ensures { λ r. ⌜ r ≡ runsOn (served .reply) ⌝ }
+fn runs_on(handled: Handled) -> bool
+    ensures { λ r. ⌜ r ≡ runsOn (handled .reply) ⌝ }
 {
-    let reply = served.reply;
+    let reply = handled.reply;
     match reply {
         Reply::Silent => true,
         Reply::Started {
@@ -220,35 +219,35 @@ fn runs_on(served: Served) -> bool
 }
 
 // Steps until the task's operation has ended, or a step is refused.
-fn finish(file: &[u8], bench: Bench, task: u16) -> Served
+fn finish(file: &[u8], bench: Bench, task: u16) -> Handled
     ensures { λ r. ⌜ r ≡ finishBench (now (file .entry)) bench task ⌝ }
 {
-    let mut served = step(file, bench, task);
+    let mut handled = step(file, bench, task);
     let mut turns = MOST_TURNS;
-    while turns > 0 && runs_on(served) {
+    while turns > 0 && runs_on(handled) {
         turns -= 1;
-        let left = served.bench;
-        served = step(file, left, task);
+        let left = handled.bench;
+        handled = step(file, left, task);
     }
-    served
+    handled
 }
 
 // A line that is not served.
-fn refuse(bench: Bench) -> Served
+fn refuse(bench: Bench) -> Handled
     ensures { λ r. ⌜ r ≡ refuseLine bench ⌝ }
 {
-    Served {
+    Handled {
         bench,
         reply: Reply::Refused(Refusal::Line),
     }
 }
 
 // What is printed for a reply.
-fn print(served: Served) -> Printed
-    ensures { λ r. ⌜ Shows r (shown served) ⌝ }
+fn print(handled: Handled) -> Printed
+    ensures { λ r. ⌜ Prints r (replyPrinted handled) ⌝ }
 {
-    let bench = served.bench;
-    let reply = served.reply;
+    let bench = handled.bench;
+    let reply = handled.reply;
     Printed {
         bench,
         text: reply::reply_line(reply),
@@ -257,14 +256,14 @@ fn print(served: Served) -> Printed
 
 // The line of the first of the cells.
 fn held_line(cells: [u64; 9], tasks: usize) -> Text
-    ensures { λ r. ⌜ Counts (r .len) (r .bytes) × (take (r .len) (r .bytes) ≡ cellsLine (take (cellCount tasks) cells)) ⌝ }
+    ensures { λ r. ⌜ Spells r (cellsLine (take (cellCount tasks) cells)) ⌝ }
 {
     let count = cell_count(tasks);
     reply::cells_line(&cells[..count])
 }
 
 fn print_cells(bench: Bench) -> Printed
-    ensures { λ r. ⌜ Shows r (shownCells bench) ⌝ }
+    ensures { λ r. ⌜ Prints r (cellsPrinted bench) ⌝ }
 {
     let cells = bench.cells;
     Printed {
@@ -275,7 +274,7 @@ fn print_cells(bench: Bench) -> Printed
 
 // Serves a command, with a run for every other one than a start.
 fn act(file: &[u8], bench: Bench, command: Command) -> Printed
-    ensures { λ r. ⌜ Shows r (actOf (now (file .entry)) bench command) ⌝ }
+    ensures { λ r. ⌜ Prints r (actOf (now (file .entry)) bench command) ⌝ }
 {
     match command {
         Command::Start { tasks } => print(start(file, bench, tasks)),
@@ -305,7 +304,7 @@ fn is_start(command: Command) -> bool
 
 // Serves a command. Before an accepted start every other one is refused.
 pub fn serve(file: &[u8], bench: Bench, command: Command) -> Printed
-    ensures { λ r. ⌜ Shows r (serveOf (now (file .entry)) bench command) ⌝ }
+    ensures { λ r. ⌜ Prints r (serveOf (now (file .entry)) bench command) ⌝ }
 {
     if bench.tasks != 0 {
         return act(file, bench, command);

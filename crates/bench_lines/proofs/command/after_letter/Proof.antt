@@ -5,7 +5,7 @@ use Prim.Native.Nat.{ℕ, _+_}
 use native.Mathlib.Omega.{arith}
 use lib.ListN.{drop}
 use lib.Seq.{take-all, length-take-le}
-use Rattle.bench_lines.specs.Command.{fieldsOf, numberOf, withOne, afterNumber, afterLetter}
+use Rattle.bench_lines.specs.Command.{fieldsOf, decimalOf, withOne, afterNumber, afterLetter}
 use Rattle.bench_lines.proofs.Fields.{one-field, first-field, to-the-end}
 use Rattle.bench_lines.specs.declared.command.Number.{Number}
 use Rattle.bench_lines.proofs.command.after_letter.Statement.{statement}
@@ -52,7 +52,7 @@ returns-2 c = let a = c .before .before .before .before .before .before .args in
     let rest = a .rest .now in
     let end = c .before .before .before .before .field-end in
     let whole = take-all (end .result) rest (c .before .if1 .left) in
-    c .with-one .ensures ∙ ap (withOne (a .letter)) (c .before .before .read-number .ensures ∙ ap numberOf whole)
+    c .with-one .ensures ∙ ap (withOne (a .letter)) (c .before .before .read-number .ensures ∙ ap decimalOf whole)
     ∙ sym (ap (afterLetter (a .letter)) (one-field rest (omega (arith, end .ensures .0, c .before .if1 .left))))
 
 pub after-letter-spec : {M : Type 1} → statement M

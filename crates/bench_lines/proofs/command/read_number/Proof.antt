@@ -1,6 +1,6 @@
 use borrow.Author.Needs.{needs}
 use mathlib.Core.Path.{_∙_, sym}
-use Rattle.bench_lines.proofs.Fields.{number-of-one, number-of-two, number-of-three, number-of-none}
+use Rattle.bench_lines.proofs.Fields.{decimal-of-one, decimal-of-two, decimal-of-three, decimal-of-none}
 use Rattle.bench_lines.proofs.command.read_number.Statement.{statement}
 use Rattle.bench_lines.proofs.command.read_number.Tie as tie
 
@@ -32,16 +32,16 @@ three-digits-requires-3 : tie.Need-three-digits-requires-3
 three-digits-requires-3 c κs = search needs
 
 returns : tie.Need-returns
-returns c = c .three-digits .ensures ∙ sym (number-of-one (c .before .before .before .before .args .field .now) (c .before .before .match .keys1))
+returns c = c .three-digits .ensures ∙ sym (decimal-of-one (c .before .before .before .before .args .field .now) (c .before .before .match .keys1))
 
 returns-2 : tie.Need-returns-2
-returns-2 c = c .three-digits2 .ensures ∙ sym (number-of-two (c .before .before .before .before .before .args .field .now) (c .before .before .before .match .keys2))
+returns-2 c = c .three-digits2 .ensures ∙ sym (decimal-of-two (c .before .before .before .before .before .args .field .now) (c .before .before .before .match .keys2))
 
 returns-3 : tie.Need-returns-3
-returns-3 c = c .three-digits3 .ensures ∙ sym (number-of-three (c .before .before .before .before .before .before .args .field .now) (c .before .before .before .before .match .keys3))
+returns-3 c = c .three-digits3 .ensures ∙ sym (decimal-of-three (c .before .before .before .before .before .before .args .field .now) (c .before .before .before .before .match .keys3))
 
 returns-4 : tie.Need-returns-4
-returns-4 c = sym (number-of-none (c .before .before .args .field .now) (c .match .rest .0 .0 .1) (c .match .rest .0 .1) (c .match .rest .1))
+returns-4 c = sym (decimal-of-none (c .before .before .args .field .now) (c .match .rest .0 .0 .1) (c .match .rest .0 .1) (c .match .rest .1))
 
 pub read-number-spec : {M : Type 1} → statement M
 read-number-spec =

@@ -1,7 +1,7 @@
 use borrow.Author.Needs.{needs}
 use mathlib.Core.Path.{_∙_, ap, sym}
-use Rattle.bench_session.specs.Run.{shown, actOf}
-use Rattle.bench_session.proofs.Runs.{shows-as}
+use Rattle.bench_session.specs.Run.{replyPrinted, actOf}
+use Rattle.bench_session.proofs.Runs.{prints-as}
 use Rattle.bench_session.proofs.run.act.Statement.{statement}
 use Rattle.bench_session.proofs.run.act.Tie as tie
 
@@ -58,27 +58,27 @@ print-requires-5 c κs = search needs
 
 returns : tie.Need-returns
 returns c = let a = c .before .before .before .before .before .before .args in
-    shows-as (c .print .result) _ _ (ap shown (c .before .start .ensures) ∙ sym (ap (actOf (a .file .now) (a .bench)) (c .before .before .before .command .given .1))) (c .print .ensures)
+    prints-as (c .print .result) _ _ (ap replyPrinted (c .before .start .ensures) ∙ sym (ap (actOf (a .file .now) (a .bench)) (c .before .before .before .command .given .1))) (c .print .ensures)
 
 returns-2 : tie.Need-returns-2
 returns-2 c = let a = c .before .before .before .before .before .before .args in
-    shows-as (c .print2 .result) _ _ (ap shown (c .before .begin .ensures) ∙ sym (ap (actOf (a .file .now) (a .bench)) (c .before .before .before .command2 .given .1))) (c .print2 .ensures)
+    prints-as (c .print2 .result) _ _ (ap replyPrinted (c .before .begin .ensures) ∙ sym (ap (actOf (a .file .now) (a .bench)) (c .before .before .before .command2 .given .1))) (c .print2 .ensures)
 
 returns-3 : tie.Need-returns-3
 returns-3 c = let a = c .before .before .before .before .before .before .args in
-    shows-as (c .print3 .result) _ _ (ap shown (c .before .step .ensures) ∙ sym (ap (actOf (a .file .now) (a .bench)) (c .before .before .before .command3 .given .1))) (c .print3 .ensures)
+    prints-as (c .print3 .result) _ _ (ap replyPrinted (c .before .step .ensures) ∙ sym (ap (actOf (a .file .now) (a .bench)) (c .before .before .before .command3 .given .1))) (c .print3 .ensures)
 
 returns-4 : tie.Need-returns-4
 returns-4 c = let a = c .before .before .before .before .before .before .args in
-    shows-as (c .print4 .result) _ _ (ap shown (c .before .finish .ensures) ∙ sym (ap (actOf (a .file .now) (a .bench)) (c .before .before .before .command4 .given .1))) (c .print4 .ensures)
+    prints-as (c .print4 .result) _ _ (ap replyPrinted (c .before .finish .ensures) ∙ sym (ap (actOf (a .file .now) (a .bench)) (c .before .before .before .command4 .given .1))) (c .print4 .ensures)
 
 returns-5 : tie.Need-returns-5
 returns-5 c = let a = c .before .before .before .before .args in
-    shows-as (c .print-cells .result) _ _ (sym (ap (actOf (a .file .now) (a .bench)) (c .before .enum-told .given .1))) (c .print-cells .ensures)
+    prints-as (c .print-cells .result) _ _ (sym (ap (actOf (a .file .now) (a .bench)) (c .before .enum-told .given .1))) (c .print-cells .ensures)
 
 returns-6 : tie.Need-returns-6
 returns-6 c = let a = c .before .before .before .before .before .args in
-    shows-as (c .print5 .result) _ _ (ap shown (c .before .refuse .ensures) ∙ sym (ap (actOf (a .file .now) (a .bench)) (c .before .before .enum-told2 .given .1))) (c .print5 .ensures)
+    prints-as (c .print5 .result) _ _ (ap replyPrinted (c .before .refuse .ensures) ∙ sym (ap (actOf (a .file .now) (a .bench)) (c .before .before .enum-told2 .given .1))) (c .print5 .ensures)
 
 pub act-spec : {M : Type 1} → statement M
 act-spec =

@@ -9,10 +9,10 @@ use Rattle.bench_session.proofs.run.finish.Statement.{statement}
 use Rattle.bench_session.proofs.run.finish.Tie as tie
 
 abbrev Inv-loop : tie.InvT-loop
-Inv-loop file task served₀ turns₀ served turns = finishFrom turns file task served ≡ finishFrom mostTurns file task served₀
+Inv-loop file task handled₀ turns₀ handled turns = finishFrom turns file task handled ≡ finishFrom mostTurns file task handled₀
 
 abbrev μ-loop : tie.MeasureT-loop
-μ-loop file task served₀ turns₀ served turns = turns
+μ-loop file task handled₀ turns₀ handled turns = turns
 
 step-requires : tie.Need-step-requires Inv-loop μ-loop
 step-requires c κs = search needs
@@ -37,19 +37,19 @@ loop-less c = omega arith
 loop-again : tie.Need-loop-again Inv-loop μ-loop
 loop-again c = let a = c .before .before .before .before .before .before .before .before .args in
     let l = c .before .before .before .before .before .loop in
-    let more = finish-more (l .turns) (a .file .now) (a .task) (l .served) (c .before .before .before .before .loop-test .taken) (sym (c .before .before .before .runs-on .ensures) ∙ c .before .before .if1 .taken) in
+    let more = finish-more (l .turns) (a .file .now) (a .task) (l .handled) (c .before .before .before .before .loop-test .taken) (sym (c .before .before .before .runs-on .ensures) ∙ c .before .before .if1 .taken) in
     ap (finishFrom (l .turns - 1) (a .file .now) (a .task)) (c .step2 .ensures) ∙ sym more ∙ l .inv
 
 returns : tie.Need-returns Inv-loop μ-loop
 returns c = let a = c .before .before .before .before .before .before .args in
     let l = c .before .before .before .loop in
-    sym (finish-last (l .turns) (a .file .now) (a .task) (l .served) (sym (c .before .runs-on .ensures) ∙ c .if1 .left))
+    sym (finish-last (l .turns) (a .file .now) (a .task) (l .handled) (sym (c .before .runs-on .ensures) ∙ c .if1 .left))
     ∙ l .inv ∙ ap (finishFrom mostTurns (a .file .now) (a .task)) (c .before .before .before .before .step .ensures)
 
 returns-2 : tie.Need-returns-2 Inv-loop μ-loop
 returns-2 c = let a = c .before .before .before .before .args in
     let l = c .before .loop in
-    sym (finish-none (l .turns) (a .file .now) (a .task) (l .served) (omega (arith, c .loop-test .left)))
+    sym (finish-none (l .turns) (a .file .now) (a .task) (l .handled) (omega (arith, c .loop-test .left)))
     ∙ l .inv ∙ ap (finishFrom mostTurns (a .file .now) (a .task)) (c .before .before .step .ensures)
 
 pub finish-spec : {M : Type 1} → statement M

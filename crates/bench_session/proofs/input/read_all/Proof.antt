@@ -1,11 +1,13 @@
--- Nothing is promised of what the input holds; the loop ends.
+-- The session follows all bytes that were read.
 use native.Mathlib.Omega.{arith}
 use borrow.Author.Needs.{needs}
-use Rattle.bench_session.proofs.input.serve_input.Statement.{statement}
-use Rattle.bench_session.proofs.input.serve_input.Tie as tie
+use Rattle.bench_session.specs.Session.{Reached}
+use Rattle.bench_session.proofs.Feeds.{reached-none, reached-more}
+use Rattle.bench_session.proofs.input.read_all.Statement.{statement}
+use Rattle.bench_session.proofs.input.read_all.Tie as tie
 
 abbrev Inv-loop : tie.InvT-loop
-Inv-loop file session₀ turns₀ more₀ session turns more = Unit {0}
+Inv-loop file session₀ turns₀ more₀ session turns more = Reached file session
 
 abbrev μ-loop : tie.MeasureT-loop
 μ-loop file session₀ turns₀ more₀ session turns more = turns
@@ -14,7 +16,7 @@ begin-requires : tie.Need-begin-requires Inv-loop μ-loop
 begin-requires c κs = search needs
 
 loop-holds : tie.Need-loop-holds Inv-loop μ-loop
-loop-holds c = tt
+loop-holds c = reached-none _ (c .begin .result) (c .begin .ensures)
 
 sub-turns : tie.Need-sub-turns Inv-loop μ-loop
 sub-turns c = omega arith
@@ -26,19 +28,17 @@ loop-less : tie.Need-loop-less Inv-loop μ-loop
 loop-less c = omega arith
 
 loop-again : tie.Need-loop-again Inv-loop μ-loop
-loop-again c = tt
-
-end-line-requires : tie.Need-end-line-requires Inv-loop μ-loop
-end-line-requires c κs = search needs
+loop-again c = let l = c .before .before .before .before .loop in
+    reached-more _ (l .session) (c .before .read-part .result .session) (l .inv) (c .before .read-part .ensures)
 
 returns : tie.Need-returns Inv-loop μ-loop
-returns c = search needs
+returns c = c .before .before .loop .inv
 
 returns-2 : tie.Need-returns-2 Inv-loop μ-loop
-returns-2 c = search needs
+returns-2 c = c .before .loop .inv
 
-pub serve-input-spec : {M : Type 1} → statement M
-serve-input-spec =
+pub read-all-spec : {M : Type 1} → statement M
+read-all-spec =
     tie.close
     (tie.spec
     Inv-loop
@@ -49,6 +49,5 @@ serve-input-spec =
     read-part-requires
     loop-less
     loop-again
-    end-line-requires
     returns
     returns-2)

@@ -1,0 +1,27 @@
+-- What is proved of the bench as a whole, as types over its definitions. `proofs/Theorem.antt` has a proof of each.
+use mathlib.Core.Path.{_≡_}
+use mathlib.Core.List.{List}
+use Prim.Native.Nat.{ℕ}
+use Rattle.table.specs.File.{Bytes}
+use Rattle.bench_lines.specs.declared.reply.Reply.{Reply}
+use Rattle.bench_lines.specs.declared.reply.Reply.the-variants as reply
+use Rattle.bench_session.specs.declared.run.Bench.{Bench}
+use Rattle.bench_session.specs.Run.{stepBench, finishBench}
+use Rattle.bench_session.specs.Session.{newSession, feed}
+
+-- How `d t` ends, by the reply of its first step: one that ends the operation or is refused is the last; after one that
+-- answers running the operation ends with a response.
+abbrev pub EndsBy : ℕ → (first last : Reply) → Type 0
+EndsBy t reply.Silent last = (r : ℕ) × (last ≡ reply.Ended t r)
+EndsBy t (reply.Started k s m) last = ⊥
+EndsBy t (reply.Ended u r) last = last ≡ reply.Ended u r
+EndsBy t (reply.Refused c) last = last ≡ reply.Refused c
+
+-- The bench after any input.
+abbrev pub benchAfter : (file input : List ℕ) → Bench
+benchAfter file input = feed file newSession input .fed .bench
+
+-- `d t` steps task t until it ends: whatever the input before, its turns are enough.
+abbrev pub Finishes : List ℕ → Type 0
+Finishes file = Bytes file → (input : List ℕ) (t : ℕ)
+    → EndsBy t (stepBench file (benchAfter file input) t .reply) (finishBench file (benchAfter file input) t .reply)
