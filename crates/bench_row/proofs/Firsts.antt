@@ -21,7 +21,7 @@ use Rattle.stepping.specs.declared.call.StartAnswer.{StartAnswer}
 use Rattle.stepping.specs.declared.call.StartAnswer.the-variants as start
 use Rattle.stepping.specs.declared.call.BeginAnswer.{BeginAnswer}
 use Rattle.stepping.specs.declared.call.BeginAnswer.the-variants as begin
-use Rattle.stepping.specs.Call.{withRow, Started, withCells, admitStartOf, startOf, Begun, beginOf, Served, stepOf}
+use Rattle.stepping.specs.Call.{withRow, StartOutcome, withCells, admitStartOf, startOf, BeginOutcome, beginOf, StepOutcome, stepOf}
 use Rattle.stepping.proofs.Refused.{refused-start, refused-begin-row, refused-step-row}
 use Rattle.bench_row.specs.First.{firstCount, startFirst, beginFirst, stepFirst}
 use Rattle.drive.proofs.Calls.{BeginSaid, StepSaid}
@@ -54,24 +54,24 @@ long-start file cs ys zs h g = at (checkOf file)
 
 pub start-first : (file cs : List ℕ) (xs : List Task) (n m : ℕ) (cs′ : List ℕ) (ys′ : List Task) (a : StartAnswer) (row : List Task) (b : StartAnswer)
     → m ≡ firstCount n → StartSaid file cs (take m xs) cs′ ys′ a → row ≡ ys′ ++ drop m xs → b ≡ a
-    → _≡_ {A = Started} (record { cells = cs′; row = row; answer = b }) (startFirst file cs xs n)
+    → _≡_ {A = StartOutcome} (record { cells = cs′; row = row; answer = b }) (startFirst file cs xs n)
 unfolding startFirst
 start-first file cs xs n m cs′ ys′ a row b em e er eb =
-    rw (er, eb, sym em) (ap (λ (s : Started). record { cells = s .cells; row = s .row ++ drop m xs; answer = s .answer }) e)
+    rw (er, eb, sym em) (ap (λ (s : StartOutcome). record { cells = s .cells; row = s .row ++ drop m xs; answer = s .answer }) e)
 
 pub begin-first : (file : List ℕ) (xs : List Task) (n m t o : ℕ) (ys′ : List Task) (a : BeginAnswer) (row : List Task) (b : BeginAnswer)
     → m ≡ firstCount n → BeginSaid file (take m xs) t o ys′ a → row ≡ ys′ ++ drop m xs → b ≡ a
-    → _≡_ {A = Begun} (record { row = row; answer = b }) (beginFirst file xs n t o)
+    → _≡_ {A = BeginOutcome} (record { row = row; answer = b }) (beginFirst file xs n t o)
 unfolding beginFirst
 begin-first file xs n m t o ys′ a row b em e er eb =
-    rw (er, eb, sym em) (ap (λ (s : Begun). record { row = s .row ++ drop m xs; answer = s .answer }) e)
+    rw (er, eb, sym em) (ap (λ (s : BeginOutcome). record { row = s .row ++ drop m xs; answer = s .answer }) e)
 
 pub step-first : (file cs : List ℕ) (xs : List Task) (n m t : ℕ) (cs′ : List ℕ) (ys′ : List Task) (a : Answer) (row : List Task) (b : Answer)
     → m ≡ firstCount n → StepSaid file cs (take m xs) t cs′ ys′ a → row ≡ ys′ ++ drop m xs → b ≡ a
-    → _≡_ {A = Served} (record { cells = cs′; row = row; answer = b }) (stepFirst file cs xs n t)
+    → _≡_ {A = StepOutcome} (record { cells = cs′; row = row; answer = b }) (stepFirst file cs xs n t)
 unfolding stepFirst
 step-first file cs xs n m t cs′ ys′ a row b em e er eb =
-    rw (er, eb, sym em) (ap (λ (s : Served). record { cells = s .cells; row = s .row ++ drop m xs; answer = s .answer }) e)
+    rw (er, eb, sym em) (ap (λ (s : StepOutcome). record { cells = s .cells; row = s .row ++ drop m xs; answer = s .answer }) e)
 
 -- ---- A refused call changes nothing
 
@@ -84,7 +84,7 @@ pub refused-start-first : (file cs : List ℕ) (xs : List Task) (n : ℕ) (reaso
 unfolding startFirst
 refused-start-first file cs xs n reason e =
     let kept = refused-start cs (take (firstCount n) xs) file reason e in
-    (first-kept xs (startOf file cs (take (firstCount n) xs) .row) (firstCount n) (ap (λ (s : Started). s .row) kept), ap (λ (s : Started). s .cells) kept)
+    (first-kept xs (startOf file cs (take (firstCount n) xs) .row) (firstCount n) (ap (λ (s : StartOutcome). s .row) kept), ap (λ (s : StartOutcome). s .cells) kept)
 
 pub refused-begin-first : (file : List ℕ) (xs : List Task) (n t o : ℕ) (reason : Refusal) → beginFirst file xs n t o .answer ≡ begin.Refused reason → beginFirst file xs n t o .row ≡ xs
 unfolding beginFirst

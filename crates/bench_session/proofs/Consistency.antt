@@ -10,7 +10,7 @@ use Rattle.bench_lines.specs.declared.command.Command.the-variants as command
 use Rattle.bench_lines.specs.Command.{commandOf}
 use Rattle.bench_lines.specs.Line.{newline}
 use Rattle.bench_session.specs.declared.run.Bench.{Bench}
-use Rattle.bench_session.specs.Run.{Printing, unstartedBench, replyPrinted, refuseLine, mostTurns, stepBench, actOf, isStart, serveOf}
+use Rattle.bench_session.specs.Run.{Printing, unstartedBench, replyPrinted, refuseLine, mostTurns, stepBench, actOf, isStart, serveCommand}
 use Rattle.bench_session.specs.Session.{Fed, Consumed, newSession, keepByte, endLine, feedByte, feed}
 use Rattle.bench_session.specs.Statement.{benchAfter}
 use Rattle.bench_session.proofs.Situations.{Consistent, before, consistent-step, consistent-begin, consistent-finish}
@@ -33,8 +33,8 @@ module _ (file : List ℕ) (bytes : Bytes file) where
   either-printed true x y p q = p
   either-printed false x y p q = q
 
-  consistent-serve : (bench : Bench) → Consistent file bench → (c : Command) → Consistent file (serveOf file bench c .bench)
-  unfolding serveOf
+  consistent-serve : (bench : Bench) → Consistent file bench → (c : Command) → Consistent file (serveCommand file bench c .bench)
+  unfolding serveCommand
   consistent-serve bench h c = either-printed (eqb (bench .tasks) 0 && not (isStart c)) (replyPrinted (refuseLine bench)) (actOf file bench c) h (consistent-act bench h c)
 
   either-consumed : (b : Bool) (x y : Consumed) → Consistent file (x .fed .bench) → Consistent file (y .fed .bench) → Consistent file (cond b x y .fed .bench)

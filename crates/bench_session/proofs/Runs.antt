@@ -11,7 +11,7 @@ use Rattle.bench_lines.specs.declared.reply.Reply.{Reply}
 use Rattle.bench_session.specs.declared.run.Bench.{Bench}
 use Rattle.bench_session.specs.declared.run.Printed.{Printed}
 use Rattle.bench_session.specs.declared.run.Handled.{Handled}
-use Rattle.bench_session.specs.Run.{runsOn, finishFrom, stepBench, Printing, Prints, replyPrinted, refuseLine, actOf, isStart, serveOf}
+use Rattle.bench_session.specs.Run.{mostTurns, runsOn, finishFrom, stepBench, Printing, Prints, replyPrinted, refuseLine, actOf, isStart, serveCommand}
 
 -- A bench and a reply as they are served.
 abbrev pub benchOf : List ℕ → List Task → ℕ → Bench
@@ -19,6 +19,11 @@ benchOf cells row n = record { cells = cells; row = row; tasks = n }
 
 abbrev pub handledAs : Bench → Reply → Handled
 handledAs bench reply = record { bench = bench; reply = reply }
+
+-- The greatest number of turns.
+pub most-turns : mostTurns ≡ 512000
+unfolding mostTurns
+most-turns = refl
 
 -- A step that answered running is followed by another.
 pub finish-more : (k : ℕ) (file : List ℕ) (t : ℕ) (out : Handled) → 0 < k → runsOn (out .reply) ≡ true
@@ -42,14 +47,14 @@ pub prints-as : (r : Printed) (out other : Printing) → out ≡ other → Print
 prints-as r out other e = subst (λ (s : Printing). Prints r s) e
 
 -- On a run, and for a start, a command is served as it stands; else it is refused.
-pub serve-run : (file : List ℕ) (bench : Bench) (command : Command) → (bench .tasks ≡ 0 → ⊥) → actOf file bench command ≡ serveOf file bench command
-unfolding serveOf
+pub serve-run : (file : List ℕ) (bench : Bench) (command : Command) → (bench .tasks ≡ 0 → ⊥) → actOf file bench command ≡ serveCommand file bench command
+unfolding serveCommand
 serve-run file bench command h = simp (ne-eqb (bench .tasks) 0 h)
 
-pub serve-start : (file : List ℕ) (bench : Bench) (command : Command) → isStart command ≡ true → actOf file bench command ≡ serveOf file bench command
-unfolding serveOf
+pub serve-start : (file : List ℕ) (bench : Bench) (command : Command) → isStart command ≡ true → actOf file bench command ≡ serveCommand file bench command
+unfolding serveCommand
 serve-start file bench command e = simp (e, and-false)
 
-pub serve-refused : (file : List ℕ) (bench : Bench) (command : Command) → bench .tasks ≡ 0 → isStart command ≡ false → replyPrinted (refuseLine bench) ≡ serveOf file bench command
-unfolding serveOf
+pub serve-refused : (file : List ℕ) (bench : Bench) (command : Command) → bench .tasks ≡ 0 → isStart command ≡ false → replyPrinted (refuseLine bench) ≡ serveCommand file bench command
+unfolding serveCommand
 serve-refused file bench command h e = simp (eq-eqb (bench .tasks) 0 h, e)

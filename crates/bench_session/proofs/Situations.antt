@@ -11,7 +11,7 @@ use lib.ListN.{length, take, drop, length-set}
 use lib.Seq.{length-front, length-take-le, take-at}
 use Rattle.machine.specs.Calls.{Call, Begin, Step}
 use Rattle.records.specs.declared.record.Task.{Task}
-use Rattle.stepping.specs.Call.{Begun, beginOf, Served, stepOf, taskAt}
+use Rattle.stepping.specs.Call.{BeginOutcome, beginOf, StepOutcome, stepOf, taskAt}
 use Rattle.stepping.specs.Opening.{Opening}
 use Rattle.stepping.specs.Runs.{Store, serveOf, runOf}
 use Rattle.stepping.proofs.Theorem.{touches-one-cell}
@@ -56,10 +56,10 @@ store-of e f k = record { cells = e k; row = f k }
 -- ---- A step and a begin
 
 -- What they leave of what is lent.
-abbrev stepOut : List ℕ → Bench → ℕ → Served
+abbrev stepOut : List ℕ → Bench → ℕ → StepOutcome
 stepOut file bench t = stepOf file (lent bench .cells) (lent bench .row) t
 
-abbrev beginOut : List ℕ → Bench → (t o : ℕ) → Begun
+abbrev beginOut : List ℕ → Bench → (t o : ℕ) → BeginOutcome
 beginOut file bench t o = beginOf file (lent bench .row) t o
 
 module _ (file : List ℕ) (bench : Bench) (nine : NineHeld bench) where

@@ -22,9 +22,9 @@ use Rattle.bench_lines.specs.declared.reply.Reply.the-variants as reply
 use Rattle.bench_row.specs.First.{stepFirst}
 use Rattle.bench_session.specs.declared.run.Bench.{Bench}
 use Rattle.bench_session.specs.declared.run.Handled.{Handled}
-use Rattle.bench_session.specs.Run.{stepReply, stepHeld, stepBench, runsOn, finishFrom, mostTurns, most-turns, finishBench}
+use Rattle.bench_session.specs.Run.{stepReply, stepHeld, stepBench, runsOn, finishFrom, mostTurns, finishBench}
 use Rattle.bench_session.specs.Statement.{EndsBy, benchAfter, Finishes}
-use Rattle.bench_session.proofs.Runs.{finish-more, finish-last}
+use Rattle.bench_session.proofs.Runs.{finish-more, finish-last, most-turns}
 use Rattle.bench_session.proofs.Openings.{pending-timely, running-pends, pending-longer, run-more}
 use Rattle.bench_session.proofs.Situations.{lent, NineHeld, nine-step, lent-step, Situation, before, during}
 use Rattle.bench_session.proofs.Consistency.{consistent-after}

@@ -18,7 +18,7 @@ use Rattle.stepping.specs.declared.call.BeginAnswer.{BeginAnswer}
 use Rattle.stepping.specs.declared.call.BeginAnswer.the-variants as begin
 use Rattle.records.specs.declared.record.Task.{Task}
 use Rattle.stepping.specs.Call as call
-use Rattle.stepping.specs.Call.{Started, Begun}
+use Rattle.stepping.specs.Call.{StartOutcome, BeginOutcome}
 use Rattle.records.specs.Record.{idleTask}
 use Rattle.bench_row.specs.First.{startFirst, beginFirst, stepFirst}
 use Rattle.bench_lines.specs.declared.command.Command.{Command}
@@ -43,7 +43,7 @@ cellCount n = cond (ltb n 9) (n + 1) 9
 -- ---- `n k`: an accepted start opens another run; a refused one leaves the present run as it is
 
 -- What a start leaves and answers, by its answer.
-abbrev pub opened : Bench → ℕ → Shape → Started → StartAnswer → Handled
+abbrev pub opened : Bench → ℕ → Shape → StartOutcome → StartAnswer → Handled
 opened bench k shape out start.Started = record {
   bench = record { cells = out .cells; row = out .row; tasks = k };
   reply = reply.Started k (shape .states) (shape .operations);
@@ -51,15 +51,15 @@ opened bench k shape out start.Started = record {
 opened bench k shape out (start.Refused c) = record { bench = bench; reply = reply.Refused c }
 
 -- The states and operations that it prints are those of the trailer.
-abbrev pub openedBy : List ℕ → Bench → ℕ → Started → Handled
+abbrev pub openedBy : List ℕ → Bench → ℕ → StartOutcome → Handled
 openedBy file bench k out = opened bench k (shapeOf file) out (out .answer)
 
 -- A start on the first of the cells and of the records; the others remain.
-abbrev pub startAfter : ℕ → List ℕ → Started → Started
+abbrev pub startAfter : ℕ → List ℕ → StartOutcome → StartOutcome
 startAfter lent cells out = record { cells = out .cells ++ drop lent cells; row = out .row; answer = out .answer }
 
 -- The cells that are lent are the first of them.
-unfoldable pub startHeld : (file cells : List ℕ) → List Task → ℕ → Started
+unfoldable pub startHeld : (file cells : List ℕ) → List Task → ℕ → StartOutcome
 startHeld file cells row k = startAfter (cellCount k) cells (startFirst file (take (cellCount k) cells) row k)
 
 -- `n k` on the bench.
@@ -74,7 +74,7 @@ beginReply begin.Begun = reply.Silent
 beginReply (begin.Refused c) = reply.Refused c
 
 -- A begin changes the records alone.
-abbrev pub beginAfter : Bench → Begun → Handled
+abbrev pub beginAfter : Bench → BeginOutcome → Handled
 beginAfter bench out =
     record { bench = record { cells = bench .cells; row = out .row; tasks = bench .tasks }; reply = beginReply (out .answer) }
 
@@ -91,7 +91,7 @@ stepReply t (step.Ended r k) = reply.Ended t r
 stepReply t (step.Refused c) = reply.Refused c
 
 -- A step on the first of the cells and of the records; the others remain.
-abbrev pub heldAfter : ℕ → List ℕ → ℕ → call.Served → Stepped
+abbrev pub heldAfter : ℕ → List ℕ → ℕ → call.StepOutcome → Stepped
 heldAfter lent cells n out =
     record { bench = record { cells = out .cells ++ drop lent cells; row = out .row; tasks = n }; answer = out .answer }
 
@@ -121,13 +121,9 @@ unfoldable pub finishFrom : ℕ → List ℕ → ℕ → Handled → Handled
 finishFrom zero file t out = out
 finishFrom (suc k) file t out = cond (runsOn (out .reply)) (finishFrom k file t (stepBench file (out .bench) t)) out
 
--- The greatest ceiling of own steps. It is shut, so that nothing counts down from it; a law says which number it is.
-pub mostTurns : ℕ
+-- The greatest ceiling of own steps. It is unfolded only where that is asked for, so that nothing counts down from it.
+unfoldable pub mostTurns : ℕ
 mostTurns = 512000
-
-pub most-turns : mostTurns ≡ 512000
-unfolding mostTurns
-most-turns = refl
 
 -- A first step, and as many more as that.
 abbrev pub finishBench : List ℕ → Bench → ℕ → Handled
@@ -171,8 +167,8 @@ isStart command.Print = false
 isStart command.Unknown = false
 
 -- Before an accepted start every other command is refused with 13 too.
-unfoldable pub serveOf : List ℕ → Bench → Command → Printing
-serveOf file bench c = cond (eqb (bench .tasks) 0 && not (isStart c)) (replyPrinted (refuseLine bench)) (actOf file bench c)
+unfoldable pub serveCommand : List ℕ → Bench → Command → Printing
+serveCommand file bench c = cond (eqb (bench .tasks) 0 && not (isStart c)) (replyPrinted (refuseLine bench)) (actOf file bench c)
 
 -- A text spells these bytes: they are its first ones, with its count within the buffer.
 abbrev pub Spells : Text → List ℕ → Type 0

@@ -15,7 +15,7 @@ use Rattle.bench_session.specs.declared.session.Taken.{Taken}
 use Rattle.bench_session.specs.declared.session.Tested.{Tested}
 use Rattle.bench_lines.specs.Command.{commandOf}
 use Rattle.bench_lines.specs.Line.{newline, replyLine}
-use Rattle.bench_session.specs.Run.{Printing, unstartedBench, serveOf, Spells}
+use Rattle.bench_session.specs.Run.{Printing, unstartedBench, serveCommand, Spells}
 
 -- ---- The whole input, line by line
 
@@ -31,7 +31,7 @@ linesOf (b ∷ bs) = cond (eqb b newline) ([] ∷ linesOf bs) (prefixed b (lines
 
 -- What one line leaves and prints.
 abbrev pub serveLine : List ℕ → Bench → List ℕ → Printing
-serveLine file bench line = serveOf file bench (commandOf line)
+serveLine file bench line = serveCommand file bench (commandOf line)
 
 -- What the lines print, one after another.
 unfoldable pub printLines : List ℕ → Bench → List (List ℕ) → List ℕ

@@ -13,7 +13,7 @@ ghost use mathlib.Core.Path.{_≡_};
 ghost use Prim.Native.Nat.{_≤_};
 ghost use lib.ListN.{take};
 ghost use Rattle.bench_lines.specs.Line.{cellsLine};
-ghost use Rattle.bench_session.specs.Run.{unstartedBench, cellCount, startHeld, startBench, beginReply, beginBench, stepReply, stepHeld, stepBench, runsOn, finishBench, refuseLine, replyPrinted, cellsPrinted, actOf, isStart, serveOf, Spells, Prints};
+ghost use Rattle.bench_session.specs.Run.{unstartedBench, cellCount, startHeld, startBench, beginReply, beginBench, stepReply, stepHeld, stepBench, runsOn, finishBench, refuseLine, replyPrinted, cellsPrinted, actOf, isStart, serveCommand, Spells, Prints};
 
 // As many cells as the greatest run has, and as many records: one more, so that a row of nine can be lent and is refused.
 const MOST_CELLS: usize = 9;
@@ -304,7 +304,7 @@ fn is_start(command: Command) -> bool
 
 // Serves a command. Before an accepted start every other one is refused.
 pub fn serve(file: &[u8], bench: Bench, command: Command) -> Printed
-    ensures { λ r. ⌜ Prints r (serveOf (now (file .entry)) bench command) ⌝ }
+    ensures { λ r. ⌜ Prints r (serveCommand (now (file .entry)) bench command) ⌝ }
 {
     if bench.tasks != 0 {
         return act(file, bench, command);

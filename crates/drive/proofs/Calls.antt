@@ -10,7 +10,7 @@ use Rattle.stepping.specs.declared.call.BeginAnswer.{BeginAnswer}
 use Rattle.stepping.specs.declared.call.Begin.{Begin}
 use Rattle.stepping.specs.declared.call.Step.{Step}
 use Rattle.records.specs.Record.{idleTask}
-use Rattle.stepping.specs.Call.{taskAt, beginTask, Begun, beginOf, Stepped, stepTask, Served, stepOf}
+use Rattle.stepping.specs.Call.{taskAt, beginTask, BeginOutcome, beginOf, Stepped, stepTask, StepOutcome, stepOf}
 
 -- A task past the row's end has an idle record.
 past-idle : (ys : List Task) (t : ℕ) → length ys ≤ t → taskAt ys t ≡ idleTask 0
@@ -20,7 +20,7 @@ past-idle ys t past = List·getD-eq-default ys (idleTask 0) past
 
 -- The row and the answer at the exit of a begin.
 abbrev pub BeginSaid : List ℕ → List Task → (t o : ℕ) → List Task → BeginAnswer → Type 0
-BeginSaid file ys t o ys′ a = _≡_ {A = Begun} (record { row = ys′; answer = a }) (beginOf file ys t o)
+BeginSaid file ys t o ys′ a = _≡_ {A = BeginOutcome} (record { row = ys′; answer = a }) (beginOf file ys t o)
 
 -- The record and the answer at the exit of a begin for one task.
 abbrev pub BeginTaskSaid : List ℕ → (n t o : ℕ) → Task → Task → BeginAnswer → Type 0
@@ -50,7 +50,7 @@ begin-past file ys t o a past e =
 
 -- The cells, the row and the answer at the exit of a step.
 abbrev pub StepSaid : (file cs : List ℕ) → List Task → ℕ → List ℕ → List Task → Answer → Type 0
-StepSaid file cs ys t cs′ ys′ a = _≡_ {A = Served} (record { cells = cs′; row = ys′; answer = a }) (stepOf file cs ys t)
+StepSaid file cs ys t cs′ ys′ a = _≡_ {A = StepOutcome} (record { cells = cs′; row = ys′; answer = a }) (stepOf file cs ys t)
 
 -- The cells, the record and the answer at the exit of a step for one task.
 abbrev pub StepTaskSaid : (file cs : List ℕ) (n t : ℕ) → Task → List ℕ → Task → Answer → Type 0

@@ -19,7 +19,7 @@ use Rattle.stepping.specs.declared.call.StartAnswer.{StartAnswer}
 use Rattle.stepping.specs.declared.call.StartAnswer.the-variants as start
 use Rattle.records.specs.declared.record.Task.{Task}
 use Rattle.records.specs.Record.{idleTask}
-use Rattle.stepping.specs.Call.{idleRow, Started, withRow, filled, startOf, withCells, admitStartOf}
+use Rattle.stepping.specs.Call.{idleRow, StartOutcome, withRow, filled, startOf, withCells, admitStartOf}
 use Rattle.stepping.proofs.Admission.{admitted-ranges}
 use Rattle.drive.specs.Start.{startedCells, idleCount}
 
@@ -66,10 +66,10 @@ filled-more ys i zs own h e idle =
 
 -- The cells, the row and the answer at the exit of a start.
 abbrev pub StartSaid : (file cs : List ℕ) → List Task → List ℕ → List Task → StartAnswer → Type 0
-StartSaid file cs ys cs′ ys′ a = _≡_ {A = Started} (record { cells = cs′; row = ys′; answer = a }) (startOf file cs ys)
+StartSaid file cs ys cs′ ys′ a = _≡_ {A = StartOutcome} (record { cells = cs′; row = ys′; answer = a }) (startOf file cs ys)
 
 -- A start by its parts, from what its tests find.
-abbrev parts : List ℕ → List Task → Start → Started
+abbrev parts : List ℕ → List Task → Start → StartOutcome
 parts cs ys found = record { cells = startedCells found cs; row = filledTo (idleCount (found .answer) (length ys)) ys; answer = found .answer }
 
 by-parts : (cs : List ℕ) (ys : List Task) (w : Admitted) → parts cs ys (withCells (length cs) (length ys) w) ≡ filled cs ys (withCells (length cs) (length ys) w)

@@ -15,7 +15,7 @@ use Rattle.stepping.specs.declared.call.BeginAnswer.{BeginAnswer}
 use Rattle.stepping.specs.declared.call.BeginAnswer.the-variants as begin
 use Rattle.stepping.specs.declared.call.StartAnswer.{StartAnswer}
 use Rattle.stepping.specs.declared.call.StartAnswer.the-variants as start
-use Rattle.stepping.specs.Call.{startOf, beginOf, stepOf, beginSaid, stepSaid, Started}
+use Rattle.stepping.specs.Call.{startOf, beginOf, stepOf, beginSaid, stepSaid, StartOutcome}
 use Rattle.stepping.specs.Runs.{Store, serveOf, runOf, historyOf}
 use Rattle.stepping.specs.Lent as lent
 use Rattle.stepping.specs.Lent.{Memory, Places, storeAt, LentCall, Says, startAnswered, serveLent, OfRun, IsRefused, Apart, Around, done, own, refused, apart, SameRun, Between, OpensNext}
@@ -53,8 +53,8 @@ module _ (p : Places) (m : Memory) where
       let (c, e) = start-cause _ r in
       let same = refused-start (m .cells (at .cells)) (m .row (at .row)) (m .table (at .table)) c e in
       store-same
-      (written-same (m .cells) (at .cells) _ (ap (λ (out : Started). out .cells) same) (p .cells))
-      (written-same (m .row) (at .row) _ (ap (λ (out : Started). out .row) same) (p .row))
+      (written-same (m .cells) (at .cells) _ (ap (λ (out : StartOutcome). out .cells) same) (p .cells))
+      (written-same (m .row) (at .row) _ (ap (λ (out : StartOutcome). out .row) same) (p .row))
   refused-keeps (lent.LentBegin table row i o) r =
       let (c, e) = begin-cause _ r in
       store-same refl (written-same (m .row) row _ (refused-begin-row (m .table table) (m .row row) i o c e) (p .row))

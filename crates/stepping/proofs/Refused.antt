@@ -27,7 +27,7 @@ use Rattle.stepping.specs.declared.call.Begin.{Begin}
 use Rattle.records.specs.Record.{idleTask, readRecord}
 use Rattle.transition.specs.Transition.{planOf, usedInRange}
 use Rattle.stepping.specs.Step.{touched, cellInForm, answerOf}
-use Rattle.stepping.specs.Call.{withRow, admitOf, Started, refuseStart, withCells, filled, startOf, admitStartOf, refuseBegin, beginFrom, beginIn, beginTask, Stepped, refuseStep, ledTo, touch, stepFrom, stepIn, stepTask, taskAt, beginOf, stepOf}
+use Rattle.stepping.specs.Call.{withRow, admitOf, StartOutcome, refuseStart, withCells, filled, startOf, admitStartOf, refuseBegin, beginFrom, beginIn, beginTask, Stepped, refuseStep, ledTo, touch, stepFrom, stepIn, stepTask, taskAt, beginOf, stepOf}
 use Rattle.stepping.proofs.Lists.{set-held}
 
 -- What holds of both sides of a choice holds of the choice.
@@ -38,7 +38,7 @@ choice P false x y p q = q
 -- ---- Start
 
 module _ (cells : List ℕ) (row : List Task) where
-  record StartKept (out : Started) : Type 0 where
+  record StartKept (out : StartOutcome) : Type 0 where
     same : (reason : Refusal) → out .answer ≡ start.Refused reason → out ≡ refuseStart cells row reason
 
   start-refused : (c : Refusal) → StartKept (refuseStart cells row c)

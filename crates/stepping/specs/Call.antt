@@ -79,12 +79,12 @@ idleRow zero = []
 idleRow (suc n) = idleRow n ++ (idleTask n ∷ [])
 
 -- The cells, the row and the answer of a call of start.
-pub record Started : Type 0 where
+pub record StartOutcome : Type 0 where
   pub cells : List ℕ
   pub row : List Task
   pub answer : StartAnswer
 
-abbrev pub refuseStart : List ℕ → List Task → Refusal → Started
+abbrev pub refuseStart : List ℕ → List Task → Refusal → StartOutcome
 refuseStart cells row c = record { cells = cells; row = row; answer = start.Refused c }
 
 -- Its tests, for k cells and n records: whether it is granted and the start state, or the first cause.
@@ -100,14 +100,14 @@ unfoldable pub admitStartOf : List ℕ → (k n : ℕ) → Start
 admitStartOf file k n = withCells k n (withRow n (checkOf file))
 
 -- A start that is granted fills the cells with the image of the start state, and every record with an idle task.
-abbrev pub filled : List ℕ → List Task → Start → Started
+abbrev pub filled : List ℕ → List Task → Start → StartOutcome
 filled cells row found = record {
   cells = cond (found .granted) (image (length row) (found .state)) cells;
   row = cond (found .granted) (idleRow (length row)) row;
   answer = found .answer;
 }
 
-unfoldable pub startOf : List ℕ → List ℕ → List Task → Started
+unfoldable pub startOf : List ℕ → List ℕ → List Task → StartOutcome
 startOf file cells row = filled cells row (admitStartOf file (length cells) (length row))
 
 -- ---- Begin: 1, 2, 3, 5, 7, 8, then 4 on the operation's entries, then 11, 9
@@ -195,21 +195,21 @@ stepTask file cells n i t = stepIn file cells n i t (admitOf file n)
 abbrev pub taskAt : List Task → ℕ → Task
 taskAt row i = getD row i (idleTask 0)
 
-pub record Begun : Type 0 where
+pub record BeginOutcome : Type 0 where
   pub row : List Task
   pub answer : BeginAnswer
 
-unfoldable pub beginOf : List ℕ → List Task → (i o : ℕ) → Begun
+unfoldable pub beginOf : List ℕ → List Task → (i o : ℕ) → BeginOutcome
 beginOf file row i o =
     let out = beginTask file (length row) i o (taskAt row i) in
     record { row = set row i (out .task); answer = out .answer }
 
-pub record Served : Type 0 where
+pub record StepOutcome : Type 0 where
   pub cells : List ℕ
   pub row : List Task
   pub answer : Answer
 
-unfoldable pub stepOf : List ℕ → List ℕ → List Task → ℕ → Served
+unfoldable pub stepOf : List ℕ → List ℕ → List Task → ℕ → StepOutcome
 stepOf file cells row i =
     let out = stepTask file cells (length row) i (taskAt row i) in
     record { cells = out .cells; row = set row i (out .task); answer = out .answer }

@@ -57,7 +57,7 @@ use Rattle.stepping.proofs.call.BeginAnswer.Laws as N′
 use Rattle.bench_row.specs.declared.BeginFirst.{BeginFirst}
 use Rattle.bench_row.proofs.BeginFirst as O
 use Rattle.bench_row.proofs.BeginFirst.Laws as O′
-use Rattle.stepping.specs.Call.{Begun}
+use Rattle.stepping.specs.Call.{BeginOutcome}
 use Rattle.bench_row.specs.First.{firstCount, beginFirst}
 use Rattle.drive.proofs.Calls.{BeginSaid}
 use Rattle.bench_row.proofs.Firsts.{first-few, begin-first}
@@ -114,7 +114,7 @@ module _ {M : Type 1} (𝓤 : URA M) (H : Heap 𝓤) (A : Atoms 𝓤) (W : Given
   abbrev Post : Val → SProp 𝓤
   Post = walkOf 𝓤 H A fn.ended stayed (fn.clauses 𝓤 H A at-mem run) .post (((κ₀, tt), (q₀, tt), tt, x, at), tt)
 
-  exits : (r : BeginFirst) (v : Val) → _≡_ {A = Begun} (record { row = r .row; answer = r .answer }) (beginFirst (file .now) xs n t w) → Nine xs → n < 2 ^ 64 → t < 2 ^ 64 → w < 2 ^ 64
+  exits : (r : BeginFirst) (v : Val) → _≡_ {A = BeginOutcome} (record { row = r .row; answer = r .answer }) (beginFirst (file .now) xs n t w) → Nine xs → n < 2 ^ 64 → t < 2 ^ 64 → w < 2 ^ 64
       → ent 𝓤 (⋆ 𝓤 H A (‵ (flft κ₀ q₀) ∷ ‵ (OwnFile κ₀ file) ∷ ‵ (O.the-row .own r (v ∷ [])) ∷ [])) (Post v)
   exits r v said nine gn gt gw =
       qed W (‵ (flft κ₀ q₀) ∷ ‵ (OwnFile κ₀ file) ∷ ‵ (O.the-row .own r (v ∷ [])) ∷ []) ∵

@@ -57,7 +57,7 @@ use Rattle.stepping.proofs.call.Answer.Laws as N′
 use Rattle.bench_row.specs.declared.StepFirst.{StepFirst}
 use Rattle.bench_row.proofs.StepFirst as O
 use Rattle.bench_row.proofs.StepFirst.Laws as O′
-use Rattle.stepping.specs.Call.{Served}
+use Rattle.stepping.specs.Call.{StepOutcome}
 use Rattle.bench_row.specs.First.{firstCount, stepFirst}
 use Rattle.drive.proofs.Calls.{StepSaid}
 use Rattle.bench_row.proofs.Firsts.{first-few, step-first}
@@ -114,7 +114,7 @@ module _ {M : Type 1} (𝓤 : URA M) (H : Heap 𝓤) (A : Atoms 𝓤) (W : Given
   abbrev Post : Val → SProp 𝓤
   Post = walkOf 𝓤 H A fn.ended stayed (fn.clauses 𝓤 H A at-mem run) .post (((κ₀, (κ₁, tt)), (q₀, (q₁, tt)), tt, x, at), tt)
 
-  exits : (r : StepFirst) (v : Val) (cs′ : List ℕ) → _≡_ {A = Served} (record { cells = cs′; row = r .row; answer = r .answer }) (stepFirst (file .now) (cells .now) xs n t) → length cs′ ≡ length (cells .now) → Nine xs → n < 2 ^ 64 → t < 2 ^ 64
+  exits : (r : StepFirst) (v : Val) (cs′ : List ℕ) → _≡_ {A = StepOutcome} (record { cells = cs′; row = r .row; answer = r .answer }) (stepFirst (file .now) (cells .now) xs n t) → length cs′ ≡ length (cells .now) → Nine xs → n < 2 ^ 64 → t < 2 ^ 64
       → ent 𝓤 (⋆ 𝓤 H A (‵ (flft κ₀ q₀) ∷ ‵ (flft κ₁ q₁) ∷ ‵ (OwnFile κ₀ file) ∷ ‵ (finally u64 (cells .name) cs′) ∷ ‵ (O.the-row .own r (v ∷ [])) ∷ [])) (Post v)
   exits r v cs′ said lc nine gn gt =
       qed W (‵ (flft κ₀ q₀) ∷ ‵ (flft κ₁ q₁) ∷ ‵ (OwnFile κ₀ file) ∷ ‵ (finally u64 (cells .name) cs′) ∷ ‵ (O.the-row .own r (v ∷ [])) ∷ []) ∵

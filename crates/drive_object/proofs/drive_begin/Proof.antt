@@ -41,7 +41,7 @@ use Rattle.records.proofs.record.Task as T
 use Rattle.stepping.specs.declared.call.BeginAnswer.{BeginAnswer}
 use Rattle.stepping.proofs.call.BeginAnswer as N
 use Rattle.stepping.proofs.call.BeginAnswer.Laws as N′
-use Rattle.stepping.specs.Call.{Begun, beginOf}
+use Rattle.stepping.specs.Call.{BeginOutcome, beginOf}
 use Rattle.drive.proofs.Values.{slice, OwnFile}
 use Rattle.drive.proofs.Calls.{BeginSaid}
 use Rattle.drive.proofs.begin as called
@@ -67,7 +67,7 @@ stayed = (stay-none-slice (0 ∷ []) tt (plain (λ _. u8)) yes, (gave-slice (1 �
 
 -- what the contract says at exit, from what the call and the word say
 word-said : (file : List ℕ) (row : List Task) (t : ℕ) (w : ℕ) (ys′ : List Task) (a : BeginAnswer) (r : ℕ) → BeginSaid file row t w ys′ a → r ≡ beginWord a → (ys′ ≡ beginOf file row t w .row) × (r ≡ beginWord (beginOf file row t w .answer))
-word-said file row t w ys′ a r e er = (ap (λ (b : Begun). b .row) e, er ∙ ap (λ (b : Begun). beginWord (b .answer)) e)
+word-said file row t w ys′ a r e er = (ap (λ (b : BeginOutcome). b .row) e, er ∙ ap (λ (b : BeginOutcome). beginWord (b .answer)) e)
 
 module _ {M : Type 1} (𝓤 : URA M) (H : Heap 𝓤) (A : Atoms 𝓤) (at-mem : Memory → SProp 𝓤) (run : Routine → Fun 𝓤) where
   -- the contract that the walk cites

@@ -41,7 +41,7 @@ use Rattle.records.proofs.record.Task as T
 use Rattle.stepping.specs.declared.call.StartAnswer.{StartAnswer}
 use Rattle.stepping.proofs.call.StartAnswer as N
 use Rattle.stepping.proofs.call.StartAnswer.Laws as N′
-use Rattle.stepping.specs.Call.{Started, startOf}
+use Rattle.stepping.specs.Call.{StartOutcome, startOf}
 use Rattle.drive.proofs.Values.{slice, OwnFile}
 use Rattle.drive.proofs.Starts.{StartSaid}
 use Rattle.drive.proofs.start as called
@@ -66,7 +66,7 @@ stayed = (stay-none-slice (0 ∷ []) tt (plain (λ _. u8)) yes, (gave-slice (1 �
 
 -- what the contract says at exit, from what the call and the word say
 word-said : (file : List ℕ) (cells : List ℕ) (row : List Task) (cs′ : List ℕ) (ys′ : List Task) (a : StartAnswer) (r : ℕ) → StartSaid file cells row cs′ ys′ a → r ≡ startWord a → (cs′ ≡ startOf file cells row .cells) × (ys′ ≡ startOf file cells row .row) × (r ≡ startWord (startOf file cells row .answer))
-word-said file cells row cs′ ys′ a r e er = (ap (λ (b : Started). b .cells) e, ap (λ (b : Started). b .row) e, er ∙ ap (λ (b : Started). startWord (b .answer)) e)
+word-said file cells row cs′ ys′ a r e er = (ap (λ (b : StartOutcome). b .cells) e, ap (λ (b : StartOutcome). b .row) e, er ∙ ap (λ (b : StartOutcome). startWord (b .answer)) e)
 
 module _ {M : Type 1} (𝓤 : URA M) (H : Heap 𝓤) (A : Atoms 𝓤) (at-mem : Memory → SProp 𝓤) (run : Routine → Fun 𝓤) where
   -- the contracts that the walk cites

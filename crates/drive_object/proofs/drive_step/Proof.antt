@@ -41,7 +41,7 @@ use Rattle.records.proofs.record.Task as T
 use Rattle.stepping.specs.declared.call.Answer.{Answer}
 use Rattle.stepping.proofs.call.Answer as N
 use Rattle.stepping.proofs.call.Answer.Laws as N′
-use Rattle.stepping.specs.Call.{Served, stepOf}
+use Rattle.stepping.specs.Call.{StepOutcome, stepOf}
 use Rattle.drive.proofs.Values.{slice, OwnFile}
 use Rattle.drive.proofs.Calls.{StepSaid}
 use Rattle.drive.proofs.step as called
@@ -67,7 +67,7 @@ stayed = (stay-none-slice (0 ∷ []) tt (plain (λ _. u8)) yes, (gave-slice (1 �
 
 -- what the contract says at exit, from what the call and the word say
 word-said : (file : List ℕ) (cells : List ℕ) (row : List Task) (t : ℕ) (cs′ : List ℕ) (ys′ : List Task) (a : Answer) (r : ℕ) → StepSaid file cells row t cs′ ys′ a → r ≡ stepWord a → (cs′ ≡ stepOf file cells row t .cells) × (ys′ ≡ stepOf file cells row t .row) × (r ≡ stepWord (stepOf file cells row t .answer))
-word-said file cells row t cs′ ys′ a r e er = (ap (λ (b : Served). b .cells) e, ap (λ (b : Served). b .row) e, er ∙ ap (λ (b : Served). stepWord (b .answer)) e)
+word-said file cells row t cs′ ys′ a r e er = (ap (λ (b : StepOutcome). b .cells) e, ap (λ (b : StepOutcome). b .row) e, er ∙ ap (λ (b : StepOutcome). stepWord (b .answer)) e)
 
 module _ {M : Type 1} (𝓤 : URA M) (H : Heap 𝓤) (A : Atoms 𝓤) (at-mem : Memory → SProp 𝓤) (run : Routine → Fun 𝓤) where
   -- the contract that the walk cites

@@ -3,8 +3,8 @@ use mathlib.Core.Path.{_≡_, _∙_, ap, sym}
 use Prim.Native.Nat.{ℕ, _-_}
 use native.Mathlib.Omega.{arith}
 use borrow.Author.Needs.{needs}
-use Rattle.bench_session.specs.Run.{mostTurns, most-turns, finishFrom}
-use Rattle.bench_session.proofs.Runs.{finish-more, finish-last, finish-none}
+use Rattle.bench_session.specs.Run.{mostTurns, finishFrom}
+use Rattle.bench_session.proofs.Runs.{finish-more, finish-last, finish-none, most-turns}
 use Rattle.bench_session.proofs.run.finish.Statement.{statement}
 use Rattle.bench_session.proofs.run.finish.Tie as tie
 

@@ -3,7 +3,7 @@ use mathlib.Core.Path.{_∙_, ap, sym}
 use Rattle.table.specs.declared.Shape.{Shape}
 use Rattle.table.specs.File.{shapeOf}
 use Rattle.stepping.specs.declared.call.StartAnswer.the-variants as start
-use Rattle.stepping.specs.Call.{Started}
+use Rattle.stepping.specs.Call.{StartOutcome}
 use Rattle.bench_session.specs.Run.{opened, openedBy, startBench}
 use Rattle.bench_session.proofs.run.start.Statement.{statement}
 use Rattle.bench_session.proofs.run.start.Tie as tie
@@ -24,7 +24,7 @@ returns : tie.Need-returns
 unfolding startBench
 returns c = let a = c .before .before .before .before .before .before .before .args in
     let out = c .before .before .before .start-held in
-    let held : Started = record { cells = out .result .cells; row = out .result .row; answer = out .result .answer } in
+    let held : StartOutcome = record { cells = out .result .cells; row = out .result .row; answer = out .result .answer } in
     sym (ap (opened (a .bench) (a .tasks) (shapeOf (a .file .now)) held) (c .before .answer .given .1))
     ∙ ap (openedBy (a .file .now) (a .bench) (a .tasks)) (out .ensures)
 
@@ -32,7 +32,7 @@ returns-2 : tie.Need-returns-2
 unfolding startBench
 returns-2 c = let a = c .before .before .before .before .before .before .before .before .before .args in
     let out = c .before .before .before .before .before .start-held in
-    let held : Started = record { cells = out .result .cells; row = out .result .row; answer = out .result .answer } in
+    let held : StartOutcome = record { cells = out .result .cells; row = out .result .row; answer = out .result .answer } in
     ap (λ (shape : Shape). opened (a .bench) (a .tasks) shape held start.Started) (c .before .before .read-shape .ensures)
     ∙ sym (ap (opened (a .bench) (a .tasks) (shapeOf (a .file .now)) held) (c .before .before .before .enum-told .given .1))
     ∙ ap (openedBy (a .file .now) (a .bench) (a .tasks)) (out .ensures)
