@@ -116,11 +116,15 @@ impl Book {
 
     /// The book's state and its tasks are those of the point.
     pub fn agrees_with(&self, point: &Configuration) -> Result<(), String> {
-        if self.state != usize::from(point.state()) {
-            return Err(format!("book: state {}, head: {}", self.state, point.state()));
+        self.agrees_with_book(&Book::of(point))
+    }
+
+    /// State and tasks are those of another book, which a point shows.
+    pub fn agrees_with_book(&self, shown: &Book) -> Result<(), String> {
+        if self.state != shown.state {
+            return Err(format!("book: state {}, head: {}", self.state, shown.state));
         }
-        for (task, &status) in self.tasks.iter().enumerate() {
-            let shown = status_of(point, task);
+        for (task, (&status, &shown)) in self.tasks.iter().zip(&shown.tasks).enumerate() {
             if without_place(status) != without_place(shown) {
                 return Err(format!(
                     "book: task {task} is {status:?}, the cells show {shown:?}"

@@ -106,6 +106,11 @@ impl Announcement {
     }
 }
 
+/// The kind of an announcement: 0 empty, 1 operation, 2 response.
+pub fn kind(word: u64) -> u64 {
+    KIND.get(word)
+}
+
 /// The bit of a task among the marks.
 pub fn mark_of(task: usize) -> u64 {
     assert!(task < MOST_TASKS);

@@ -1,7 +1,7 @@
 //! A point of a run: all cells and all records; and the calls that lead from one to the next.
 
 use crate::calls::{self, Advance};
-use crate::cells::{has_mark, image, Announcement, Head, Holder, MOST_TASKS};
+use crate::cells::{has_mark, image, kind, Announcement, Head, Holder, MOST_TASKS};
 use crate::machine::{announcement_cell, Answer, HEAD_CELL};
 use crate::record::Record;
 use crate::refusal::Refusal;
@@ -90,6 +90,11 @@ impl Configuration {
 
     pub fn content(&self, task: usize) -> Announcement {
         Announcement::decode(self.announcement(task))
+    }
+
+    /// The kind in the task's announcement is 0.
+    pub fn is_empty(&self, task: usize) -> bool {
+        kind(self.announcement(task)) == 0
     }
 
     /// The task's response stands in its announcement.

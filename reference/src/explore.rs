@@ -4,7 +4,8 @@ use crate::book::Book;
 use crate::configuration::{Call, Configuration};
 use crate::machine::Answer;
 use crate::record::Record;
-use crate::transition::System;
+use crate::table::Table;
+use crate::transition::{Checked, System};
 
 pub const MOST_EXPLORED_TASKS: usize = 2;
 const RECORD_WORDS: usize = 3;
@@ -68,11 +69,21 @@ pub struct Graph {
 
 const FREE: u32 = u32::MAX;
 
+/// Makes a call at a point and checks it.
+pub type Make<'a> = dyn Fn(&Configuration, Call) -> Checked + 'a;
+
 impl Graph {
     /// Explores from the start; the first transition that breaks a rule ends it.
     pub fn explore(system: System, tasks: usize) -> Result<Graph, String> {
+        Graph::explore_by(system.table, tasks, &|before, call| {
+            system.make_checked(before, call, &mut Book::of(before))
+        })
+    }
+
+    /// Explores by what makes and checks a call.
+    pub fn explore_by(table: &Table, tasks: usize, make: &Make) -> Result<Graph, String> {
         assert!(tasks <= MOST_EXPLORED_TASKS);
-        let start = Configuration::started(system.table, tasks)
+        let start = Configuration::started(table, tasks)
             .map_err(|refusal| format!("start answers {}", refusal.number()))?;
         let mut graph = Graph {
             tasks,
@@ -85,7 +96,7 @@ impl Graph {
         let mut next = 0;
         while next < graph.points.len() {
             graph.first_edges.push(graph.edges.len());
-            graph.leave(system, next)?;
+            graph.leave(table, make, next)?;
             next += 1;
         }
         graph.first_edges.push(graph.edges.len());
@@ -93,31 +104,23 @@ impl Graph {
     }
 
     /// Makes every accepted call at a point.
-    fn leave(&mut self, system: System, number: usize) -> Result<(), String> {
+    fn leave(&mut self, table: &Table, make: &Make, number: usize) -> Result<(), String> {
         let before = unpack(&self.points[number], self.tasks);
         for task in 0..self.tasks {
             if before.record(task).is_pending() {
-                self.follow(system, &before, Call::Step { task }, task)?;
+                self.follow(make, &before, Call::Step { task }, task)?;
                 continue;
             }
-            for operation in 0..system.table.operations {
-                self.follow(system, &before, Call::Begin { task, operation }, task)?;
+            for operation in 0..table.operations {
+                self.follow(make, &before, Call::Begin { task, operation }, task)?;
             }
         }
         Ok(())
     }
 
-    fn follow(
-        &mut self,
-        system: System,
-        before: &Configuration,
-        call: Call,
-        task: usize,
-    ) -> Result<(), String> {
-        let mut book = Book::of(before);
-        let (after, answer) = system
-            .make_checked(before, call, &mut book)
-            .map_err(|message| format!("{message}\nat {before:?}\nwith {call:?}"))?;
+    fn follow(&mut self, make: &Make, before: &Configuration, call: Call, task: usize) -> Result<(), String> {
+        let (after, answer) =
+            make(before, call).map_err(|message| format!("{message}\nat {before:?}\nwith {call:?}"))?;
         let is_step = matches!(answer, Ok(Some(Answer::Running | Answer::Ended { .. })));
         let target = self.number_of(&after);
         self.edges.push(Edge {

@@ -8,18 +8,19 @@ use crate::table::Table;
 
 /// The first clause that does not hold.
 pub fn check(table: &Table, point: &Configuration) -> Result<(), String> {
+    check_without(table, point, None)
+}
+
+/// The first clause that does not hold, one about the tasks left out.
+pub fn check_without(table: &Table, point: &Configuration, left_out: Option<&str>) -> Result<(), String> {
     hold(cells_in_form(table, point), "forms of the cells")?;
     hold(holder_is_at_work(point), "G1")?;
     for task in 0..point.tasks {
         let of_task = TaskView::new(point, task);
         hold(of_task.forms(table), "forms of the record")?;
-        hold(of_task.t1(), "T1")?;
-        hold(of_task.t2(), "T2")?;
-        hold(of_task.t3(), "T3")?;
-        hold(of_task.t4(), "T4")?;
-        hold(of_task.t5(), "T5")?;
-        hold(of_task.t6(), "T6")?;
-        hold(of_task.t7(), "T7")?;
+        for (name, clause) in TaskView::CLAUSES {
+            hold(left_out == Some(name) || clause(&of_task), name)?;
+        }
     }
     Ok(())
 }
@@ -65,6 +66,17 @@ struct TaskView<'a> {
 }
 
 impl<'a> TaskView<'a> {
+    /// The clauses about a task, by their names.
+    const CLAUSES: [(&'static str, fn(&TaskView<'a>) -> bool); 7] = [
+        ("T1", TaskView::t1),
+        ("T2", TaskView::t2),
+        ("T3", TaskView::t3),
+        ("T4", TaskView::t4),
+        ("T5", TaskView::t5),
+        ("T6", TaskView::t6),
+        ("T7", TaskView::t7),
+    ];
+
     fn new(point: &'a Configuration, task: usize) -> TaskView<'a> {
         let record = point.record(task);
         TaskView {

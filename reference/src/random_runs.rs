@@ -7,7 +7,7 @@ use crate::configuration::{Call, CallAnswer, Configuration};
 use crate::machine::Answer;
 use crate::random::Random;
 use crate::table::Table;
-use crate::transition::System;
+use crate::transition::{Checked, System};
 
 /// An operation that ended: when it began and ended, and its response.
 struct EndedOperation {
@@ -24,20 +24,31 @@ pub struct Findings {
 
 /// Makes a number of calls, checks each, and at the end replays the order.
 pub fn run(system: System, tasks: usize, calls: usize, seed: u64) -> Result<Findings, String> {
-    let mut point = Configuration::started(system.table, tasks)
+    let make = |before: &Configuration, call, book: &mut Book| system.make_checked(before, call, book);
+    run_by(system.table, tasks, calls, seed, make)
+}
+
+/// Makes a number of calls by what makes and checks one, and at the end replays the order.
+pub fn run_by(
+    table: &Table,
+    tasks: usize,
+    calls: usize,
+    seed: u64,
+    make: impl Fn(&Configuration, Call, &mut Book) -> Checked,
+) -> Result<Findings, String> {
+    let mut point = Configuration::started(table, tasks)
         .map_err(|refusal| format!("start answers {}", refusal.number()))?;
-    let mut book = Book::new(system.table, tasks);
-    let mut schedule = Schedule::new(tasks, system.table.operations, seed);
+    let mut book = Book::new(table, tasks);
+    let mut schedule = Schedule::new(tasks, table.operations, seed);
     let mut history = History::new(tasks);
     for place in 0..calls {
         let call = schedule.next_call(&point);
-        let (after, answer) = system
-            .make_checked(&point, call, &mut book)
+        let (after, answer) = make(&point, call, &mut book)
             .map_err(|message| format!("{message}\nseed {seed}, {tasks} tasks, call {place}: {call:?}"))?;
         history.note(place, call, answer);
         point = after;
     }
-    history.check_order(system.table, &book)?;
+    history.check_order(table, &book)?;
     Ok(Findings {
         calls,
         ended: history.ended.len(),

@@ -1,4 +1,5 @@
-//! What is checked at every transition: answer, invariant, book, rest image and potential.
+//! What is checked at every transition: answer, invariant, book, rest image, potential, and which call empties an
+//! announcement.
 
 use crate::book::{entered_before, Book};
 use crate::calls::Advance;
@@ -17,60 +18,106 @@ pub struct System<'a> {
     pub advance: Advance,
 }
 
+/// The point after a call and the call's answer, or the rule that it breaks.
+pub type Checked = Result<(Configuration, CallAnswer), String>;
+
 impl System<'_> {
     /// Makes a call and checks all that must hold; the book is carried along.
-    pub fn make_checked(
-        &self,
-        before: &Configuration,
-        call: Call,
-        book: &mut Book,
-    ) -> Result<(Configuration, CallAnswer), String> {
-        let mut after = *before;
-        let answer = after.make(self.advance, self.table, call);
-        match answer {
-            Ok(_) => self.check_point(&after)?,
-            Err(refusal) => check_refusal(before, &after, refusal)?,
-        }
-        if let Some(task) = entered_before(before, call) {
-            book.enter(self.table, task)?;
-        }
-        book.book(self.table, call, answer)?;
-        book.agrees_with(&after)?;
-        self.check_potentials(before, call, &after)?;
-        self.check_ending_step(before, call, &after, answer)?;
-        Ok((after, answer))
+    pub fn make_checked(&self, before: &Configuration, call: Call, book: &mut Book) -> Checked {
+        let made = self.make(before, call);
+        made.check_emptied_exactly_if_ended()?;
+        invariant::check(self.table, &made.after)?;
+        made.check_service(book)?;
+        book.agrees_with(&made.after)?;
+        made.check_potentials()?;
+        Ok((made.after, made.answer))
     }
 
-    fn check_point(&self, point: &Configuration) -> Result<(), String> {
-        invariant::check(self.table, point)?;
-        match point.is_at_rest(self.table) && !point.shows_image() {
-            true => Err("the cells at rest are not the image".to_string()),
-            false => Ok(()),
+    pub fn make<'a>(&'a self, before: &'a Configuration, call: Call) -> Transition<'a> {
+        let mut after = *before;
+        let answer = after.make(self.advance, self.table, call);
+        Transition {
+            table: self.table,
+            before,
+            call,
+            after,
+            answer,
         }
+    }
+}
+
+/// A call that was made: the points before and after it, and its answer.
+pub struct Transition<'a> {
+    table: &'a Table<'a>,
+    before: &'a Configuration,
+    call: Call,
+    pub after: Configuration,
+    pub answer: CallAnswer,
+}
+
+impl Transition<'_> {
+    /// Refusals, the image at rest, the book's answer and the one step of a reading operation. The ceiling is kept
+    /// because a step past it would be refused with 11.
+    pub fn check_service(&self, book: &mut Book) -> Result<(), String> {
+        if let Err(refusal) = self.answer {
+            check_refusal(self.before, &self.after, refusal)?;
+        }
+        if self.after.is_at_rest(self.table) && !self.after.shows_image() {
+            return Err("the cells at rest are not the image".to_string());
+        }
+        if let Some(task) = entered_before(self.before, self.call) {
+            book.enter(self.table, task)?;
+        }
+        book.book(self.table, self.call, self.answer)?;
+        match self.call {
+            Call::Step { task } if self.is_running_reader(task) => {
+                Err(format!("task {task} reads and is running"))
+            }
+            _ => Ok(()),
+        }
+    }
+
+    fn is_running_reader(&self, task: usize) -> bool {
+        self.answer == Ok(Some(Answer::Running)) && !self.before.has_changing_pending(self.table, task)
+    }
+
+    /// For every task: its announcement is emptied exactly if the call is a step of it that ends a changing operation.
+    pub fn check_emptied_exactly_if_ended(&self) -> Result<(), String> {
+        for task in 0..self.after.tasks {
+            let emptied = !self.before.is_empty(task) && self.after.is_empty(task);
+            match (emptied, self.ends_changing(task)) {
+                (true, false) => return Err(format!("emptied, not ended: the announcement of task {task}")),
+                (false, true) => return Err(format!("ended, not emptied: the announcement of task {task}")),
+                _ => {}
+            }
+        }
+        Ok(())
+    }
+
+    fn ends_changing(&self, task: usize) -> bool {
+        self.call == Call::Step { task }
+            && matches!(self.answer, Ok(Some(Answer::Ended { .. })))
+            && self.before.has_changing_pending(self.table, task)
     }
 
     /// Own steps lower the potential, other calls do not raise it, and with the steps made it keeps to the ceiling.
-    fn check_potentials(
-        &self,
-        before: &Configuration,
-        call: Call,
-        after: &Configuration,
-    ) -> Result<(), String> {
-        for task in 0..after.tasks {
-            let old = self.potential_at(before, task);
-            let new = self.potential_at(after, task);
-            let own_step = call == Call::Step { task };
+    pub fn check_potentials(&self) -> Result<(), String> {
+        let tasks = self.after.tasks;
+        for task in 0..tasks {
+            let old = self.potential_at(self.before, task);
+            let new = self.potential_at(&self.after, task);
+            let own_step = self.call == Call::Step { task };
             match (old, new) {
                 (Some(old), _) if new.unwrap_or(0) + u32::from(own_step) > old => {
                     return Err(format!("potential of task {task} from {old} to {new:?}"));
                 }
-                (None, Some(new)) if new != at_begin(after.tasks) => {
+                (None, Some(new)) if new != at_begin(tasks) => {
                     return Err(format!("potential of task {task} at its begin is {new}"));
                 }
                 _ => {}
             }
-            let steps = after.record(task).steps;
-            if ceiling(after.tasks).is_ok_and(|most| steps + new.unwrap_or(0) > most) {
+            let steps = self.after.record(task).steps;
+            if ceiling(tasks).is_ok_and(|most| steps + new.unwrap_or(0) > most) {
                 return Err(format!("steps and potential of task {task} pass the ceiling"));
             }
         }
@@ -81,27 +128,6 @@ impl System<'_> {
         point
             .has_changing_pending(self.table, task)
             .then(|| potential(point, task))
-    }
-
-    /// A reading operation ends in its first step; a changing one in the step that empties the announcement.
-    fn check_ending_step(
-        &self,
-        before: &Configuration,
-        call: Call,
-        after: &Configuration,
-        answer: CallAnswer,
-    ) -> Result<(), String> {
-        let (Call::Step { task }, Ok(Some(answer))) = (call, answer) else {
-            return Ok(());
-        };
-        let expected = match before.has_changing_pending(self.table, task) {
-            true => before.announcement(task) != 0 && after.announcement(task) == 0,
-            false => true,
-        };
-        match matches!(answer, Answer::Ended { .. }) == expected {
-            true => Ok(()),
-            false => Err(format!("task {task} ends in a wrong step")),
-        }
     }
 }
 
@@ -114,5 +140,76 @@ fn check_refusal(before: &Configuration, after: &Configuration, refusal: Refusal
     match may_occur && before == after {
         true => Ok(()),
         false => Err(format!("refusal {} in a run", refusal.number())),
+    }
+}
+
+#[cfg(test)]
+mod tests {
+    use super::*;
+    use crate::objects::counter_up;
+    use crate::phase::Phase;
+    use crate::record::Record;
+
+    const RESPONSE: u64 = 0x0001_0200;
+    const MARK: u64 = 2;
+    const RUNNING: CallAnswer = Ok(Some(Answer::Running));
+    const ENDED: CallAnswer = Ok(Some(Answer::Ended {
+        response: 1,
+        steps: 17,
+    }));
+
+    /// What is said of a call of two tasks, both in a changing operation, that leads from some announcements to others.
+    fn said(from: [u64; 2], to: [u64; 2], call: Call, answer: CallAnswer) -> String {
+        let (table, operation) = counter_up();
+        let retracting = Record {
+            operation: operation as u16,
+            ..Record::idle(0).with_phase(Phase::Retract)
+        };
+        let point = |cells: [u64; 2]| Configuration::of_parts(&[0, cells[0], cells[1]], &[retracting; 2]);
+        let made = Transition {
+            table: &table,
+            before: &point(from),
+            call,
+            after: point(to),
+            answer,
+        };
+        made.check_emptied_exactly_if_ended().err().unwrap_or_default()
+    }
+
+    #[test]
+    fn the_step_that_ends_empties_and_the_one_that_empties_ends() {
+        let step = Call::Step { task: 0 };
+        let both = [RESPONSE, RESPONSE];
+        let emptied = [0, RESPONSE];
+        assert_eq!(said(both, emptied, step, ENDED), "");
+        assert_eq!(said(both, both, step, RUNNING), "");
+        assert!(said(both, emptied, step, RUNNING).starts_with("emptied, not ended"));
+        assert!(said(both, both, step, ENDED).starts_with("ended, not emptied"));
+        assert!(said([0, RESPONSE], emptied, step, ENDED).starts_with("ended, not emptied"));
+    }
+
+    #[test]
+    fn no_other_call_empties_an_announcement() {
+        let both = [RESPONSE, RESPONSE];
+        let begin = Call::Begin {
+            task: 1,
+            operation: 0,
+        };
+        let refused = Err(Refusal::Pending);
+        for (call, answer) in [
+            (Call::Step { task: 0 }, RUNNING),
+            (begin, Ok(None)),
+            (begin, refused),
+        ] {
+            let found = said(both, [RESPONSE, 0], call, answer);
+            assert_eq!(found, "emptied, not ended: the announcement of task 1");
+        }
+    }
+
+    #[test]
+    fn a_mark_taken_from_an_empty_announcement_empties_nothing() {
+        let step = Call::Step { task: 0 };
+        assert_eq!(said([RESPONSE, MARK], [RESPONSE, 0], step, RUNNING), "");
+        assert_eq!(said([RESPONSE | MARK, 0], [RESPONSE, 0], step, RUNNING), "");
     }
 }

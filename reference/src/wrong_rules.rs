@@ -92,7 +92,7 @@ fn an_operation_that_is_running_for_ever() {
             _ => (record, answer),
         }
     }
-    assert_found(wrong, "book");
+    assert_found(wrong, "emptied, not ended");
 }
 
 #[test]
@@ -151,7 +151,7 @@ fn a_changing_operation_that_ends_in_its_first_step() {
             _ => (record, answer),
         }
     }
-    assert_found(wrong, "invariant: T1");
+    assert_found(wrong, "ended, not emptied");
 }
 
 #[test]

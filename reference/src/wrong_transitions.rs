@@ -1,16 +1,20 @@
 //! Machines that differ from the right one in one transition. The exploration of two tasks must find each of them, and
 //! for the reason that is stated here; random runs of three, where two tasks can't show it.
 
+use crate::book::{Book, Status};
 use crate::calls::Advance;
-use crate::cells::{has_mark, Announcement};
+use crate::cells::{has_mark, mark_of, Announcement, MOST_TASKS};
+use crate::configuration::{Call, Configuration};
 use crate::explore::Graph;
+use crate::invariant;
+use crate::longest::longest_own_steps;
 use crate::machine::{self, Answer, Outcome};
 use crate::objects::explored_objects;
 use crate::phase::Phase;
 use crate::random_runs;
 use crate::record::Record;
 use crate::table::Table;
-use crate::transition::System;
+use crate::transition::{Checked, System};
 
 /// How many schedules of three tasks are tried, and how long they are.
 const SCHEDULES: u64 = 4;
@@ -190,6 +194,113 @@ fn a_count_that_goes_on_after_the_end() {
         },
     });
     assert_found(wrong, 2, "invariant: forms of the record");
+}
+
+/// The exit empties the announcement twice and answers running the first time. The own mark in the saved announcement,
+/// which Retract doesn't use, says that this was done.
+fn emptying_twice(
+    table: &Table,
+    tasks: usize,
+    task: usize,
+    old: &Record,
+    outcome: Outcome,
+) -> (Record, Answer) {
+    if old.known_phase() != Phase::Retract || has_mark(old.announcement, task) {
+        return machine::advance(table, tasks, task, old, outcome);
+    }
+    let emptied_once = Record {
+        steps: old.steps + 1,
+        announcement: mark_of(task),
+        ..*old
+    };
+    (emptied_once, Answer::Running)
+}
+
+#[test]
+fn an_announcement_emptied_twice() {
+    assert_found(emptying_twice, 2, "emptied, not ended");
+}
+
+/// The potential takes a task whose announcement is empty for one that waits.
+#[test]
+fn an_announcement_emptied_twice_raises_the_potential() {
+    let (_, table) = &explored_objects()[0];
+    let advance = emptying_twice;
+    let system = System { table, advance };
+    let make = |before: &Configuration, call| {
+        let made = system.make(before, call);
+        made.check_potentials()?;
+        Ok((made.after, made.answer))
+    };
+    let found = Graph::explore_by(table, 2, &make).err();
+    assert!(found.is_some_and(|found| found.starts_with("potential")));
+}
+
+/// The checks but for those of the emptying, of the potential, and of one clause of the invariant.
+fn make_without(
+    clause: Option<&str>,
+    system: System,
+    before: &Configuration,
+    call: Call,
+    book: &mut Book,
+) -> Checked {
+    let made = system.make(before, call);
+    invariant::check_without(system.table, &made.after, clause)?;
+    made.check_service(book)?;
+    Ok((made.after, made.answer))
+}
+
+/// The book that belongs to a point; a task that has emptied its announcement once is done.
+fn book_of(point: &Configuration) -> Book {
+    let mut book = Book::of(point);
+    for (status, record) in book.tasks.iter_mut().zip(point.row()) {
+        if record.known_phase() == Phase::Retract {
+            *status = Status::Done {
+                response: record.payload as u16,
+                count: record.steps,
+            };
+        }
+    }
+    book
+}
+
+/// All schedules of one and two tasks; the longest operation has one own step more than the right one.
+#[test]
+fn an_announcement_emptied_twice_breaks_no_other_clause_than_t1() {
+    let (_, table) = &explored_objects()[0];
+    let advance = emptying_twice;
+    let system = System { table, advance };
+    let explore_without = |clause, tasks| {
+        let make = |before: &Configuration, call| {
+            let mut book = book_of(before);
+            let (after, answer) = make_without(clause, system, before, call, &mut book)?;
+            book.agrees_with_book(&book_of(&after))?;
+            Ok((after, answer))
+        };
+        Graph::explore_by(table, tasks, &make)
+    };
+    for (tasks, longest) in [(1, 18), (2, 125)] {
+        let found = explore_without(None, tasks).err();
+        assert!(found.is_some_and(|found| found.starts_with("invariant: T1")));
+        let graph = explore_without(Some("T1"), tasks).unwrap();
+        assert_eq!(longest_own_steps(&graph, 0), Ok(longest));
+    }
+}
+
+/// Long schedules of up to eight tasks, with a whole book and a check of its order.
+#[test]
+fn an_announcement_emptied_twice_keeps_book_order_rest_image_count_and_ceiling() {
+    let advance = emptying_twice;
+    for (_, table) in &explored_objects() {
+        let system = System { table, advance };
+        let make = |before: &Configuration, call, book: &mut Book| {
+            make_without(Some("T1"), system, before, call, book)
+        };
+        for tasks in 1..=MOST_TASKS {
+            let findings = random_runs::run_by(table, tasks, 30_000, 5, make).unwrap();
+            assert!(findings.ended > 200, "{tasks} tasks: {}", findings.ended);
+        }
+    }
 }
 
 /// The announcement that was read, an empty one if none was.
