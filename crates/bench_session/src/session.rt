@@ -39,7 +39,7 @@ pub struct Tested {
 }
 
 // The table is tested before the first line; of one that is not served the number alone is printed.
-pub fn test_table(file: &[u8]) -> Tested
+pub(crate) fn test_table(file: &[u8]) -> Tested
     ensures { λ r. ⌜ Reports r (checkOf (now (file .entry))) ⌝ }
 {
     let checked = table::check(file);
@@ -56,7 +56,7 @@ pub fn test_table(file: &[u8]) -> Tested
 }
 
 // The session before the first byte.
-pub fn begin() -> Session
+pub(crate) fn begin() -> Session
     ensures { λ r. ⌜ Follows newSession r ⌝ }
 {
     Session {
@@ -111,7 +111,7 @@ fn keep(session: Session, byte: u8) -> Session
 }
 
 // One byte of the input. Byte 10 ends a line, which is served.
-pub fn take_in(file: &[u8], session: Session, byte: u8) -> Taken
+pub(crate) fn take_in(file: &[u8], session: Session, byte: u8) -> Taken
     ensures { λ r. ⌜ ((fed : Fed) → Follows fed session → Yields r (feedByte (now (file .entry)) fed byte)) ⌝ }
 {
     if byte == NEWLINE {
@@ -124,7 +124,7 @@ pub fn take_in(file: &[u8], session: Session, byte: u8) -> Taken
 }
 
 // The end of the input. A line that is not empty is served.
-pub fn finish(file: &[u8], session: Session) -> Text
+pub(crate) fn finish(file: &[u8], session: Session) -> Text
     ensures { λ r. ⌜ ((fed : Fed) → Follows fed session → Spells r (finishText (now (file .entry)) fed)) ⌝ }
 {
     if session.len == 0 {

@@ -19,7 +19,8 @@ use Rattle.stepping.specs.declared.call.Admitted.{Admitted}
 use Rattle.stepping.specs.declared.call.Admitted.the-variants as admitted
 use Rattle.stepping.specs.Step.{touched, performOf, cellInForm}
 use Rattle.stepping.specs.Call.{admitOf, Stepped, refuseStep, touch, stepFrom, stepIn, stepTask, taskAt, stepOf}
-use Rattle.stepping.specs.Access.{accessFrom, accessIn, accessOf, Unrefused, givenBack, MakesAccess, FollowsResult, RowMakesAccess, RowFollowsResult}
+use Rattle.stepping.specs.Access.{accessFrom, accessIn, accessOf, givenBack}
+use Rattle.stepping.specs.Statement.{Unrefused, MakesAccess, FollowsResult, RowMakesAccess, RowFollowsResult}
 use Rattle.stepping.proofs.Refused.{choice}
 
 -- An outcome that made an access, unless it is refused.

@@ -18,7 +18,8 @@ use Rattle.stepping.specs.declared.call.StartAnswer.the-variants as star
 use Rattle.stepping.specs.Call.{startOf, beginOf, stepOf, beginSaid, stepSaid, StartOutcome}
 use Rattle.stepping.specs.Runs.{Store, serveOf, runOf, historyOf}
 use Rattle.stepping.specs.Lent as lent
-use Rattle.stepping.specs.Lent.{Memory, Places, storeAt, LentCall, Says, startAnswered, serveLent, OfRun, IsRefused, Apart, Around, done, own, refused, apart, SameRun, Between, OpensNext}
+use Rattle.stepping.specs.Lent.{Memory, Places, storeAt, LentCall, Says, startAnswered, serveLent, OfRun, IsRefused, Apart, Around, done, own, refused, apart, SameRun}
+use Rattle.stepping.specs.Statement.{Between, OpensNext}
 use Rattle.stepping.proofs.Starts.{accepted-start}
 use Rattle.stepping.proofs.Refused.{refused-start, refused-begin-row, refused-step-row}
 

@@ -22,7 +22,8 @@ use Rattle.transition.specs.Transition.{planOf, usedInRange}
 use Rattle.stepping.specs.Step.{touched, leftOf, performOf, cellInForm}
 use Rattle.stepping.specs.Call.{admitOf, Stepped, refuseStep, touch, stepFrom, stepIn, stepTask}
 use Rattle.stepping.proofs.Lists.{set-alike}
-use Rattle.stepping.specs.Access.{accessFrom, accessIn, accessOf, Alike, Elsewhere}
+use Rattle.stepping.specs.Access.{accessFrom, accessIn, accessOf}
+use Rattle.stepping.specs.Statement.{Alike, Elsewhere}
 
 -- ---- Any two lists of cells that agree on the touched cell
 

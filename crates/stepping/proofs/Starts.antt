@@ -25,7 +25,7 @@ use Rattle.records.specs.declared.record.Task.{Task}
 use Rattle.stepping.specs.declared.call.Start.{Start}
 use Rattle.stepping.specs.declared.call.StartAnswer.the-variants as answer
 use Rattle.stepping.specs.Call.{withRow, idleRow, startOf, withCells, admitStartOf}
-use Rattle.stepping.specs.Opening.{Startable, StartOpens}
+use Rattle.stepping.specs.Statement.{Startable, StartOpens}
 use Rattle.transition.specs.Encoding.{encodeTask}
 use Rattle.stepping.specs.Encoding.{tabulate, encodeCells, encodeRow}
 use Rattle.stepping.proofs.Admission.{ceiling-ranges}

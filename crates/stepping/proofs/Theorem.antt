@@ -1,5 +1,4 @@
--- The theorems about start, begin and step: a proof of each statement of specs/Access.antt, specs/Opening.antt, specs/Lent.antt
--- and specs/Statement.antt.
+-- The theorems about start, begin and step: a proof of each statement of specs/Statement.antt.
 use mathlib.Core.Path.{_≡_, ap, sym, _∙_}
 use mathlib.Core.List.{List}
 use Prim.Native.Nat.{ℕ, _+_, _*_}
@@ -8,20 +7,17 @@ use Rattle.cells.specs.Field.{pack}
 use Rattle.cells.specs.Image.{image}
 use Rattle.cells.specs.Layout.{announcementWord}
 use Rattle.cells.proofs.Images.{image-injective}
-use Rattle.machine.specs.Object.{Object}
 use Rattle.machine.specs.Run.{history, start}
 use Rattle.machine.specs.Calls.{Call, Step}
 use Rattle.machine.specs.History.{Pends, pending}
-use Rattle.machine.specs.Demand.{Shown, Demand}
 use Rattle.machine.proofs.OwnSteps.{next-step}
 use Rattle.machine.proofs.WaitFree.{bound-ceiling}
 use Rattle.records.specs.declared.record.Task.{Task}
 use Rattle.transition.specs.Encoding.{encodeAccess}
-use Rattle.stepping.specs.Access.{MakesAccess, FollowsResult, RowMakesAccess, RowFollowsResult, Local, OneCell}
 use Rattle.stepping.specs.Runs.{Store}
-use Rattle.stepping.specs.Opening.{Opening, objectIn, Startable, StartOpens}
-use Rattle.stepping.specs.Lent.{Places, Between, OpensNext}
-use Rattle.stepping.specs.Statement.{Demands, SharperDemands, Independent, Refusals, Endings, Emptied}
+use Rattle.stepping.specs.Opening.{Opening, objectIn}
+use Rattle.stepping.specs.Lent.{Places}
+use Rattle.stepping.specs.Statement.{Demands, SharperDemands, Independent, Refusals, Endings, Emptied, MakesAccess, FollowsResult, RowMakesAccess, RowFollowsResult, Local, OneCell, Startable, StartOpens, Between, OpensNext}
 use Rattle.stepping.proofs.Between.{between, opens-next}
 use Rattle.stepping.proofs.Demands.{opens, history-opened, answer-opened, access-opened, refused-opened, demands, emptied}
 use Rattle.stepping.proofs.Local.{step-local, step-elsewhere}
@@ -96,6 +92,6 @@ pub start-opens-next : (p : Places) → OpensNext p
 start-opens-next = opens-next
 
 -- Equal cells at rest tell equal states, and the other way round.
-pub independent : (b b′ : Object) (n q q′ c c′ : ℕ) (run run′ : Shown (List ℕ)) (d : Demand b n q c (image n) run) (d′ : Demand b′ n q′ c′ (image n) run′) → Independent b b′ n q q′ c c′ run run′ d d′
-independent b b′ n q q′ c c′ run run′ d d′ xs xs′ r r′ =
+pub independent : {file file′ : List ℕ} {n q q′ : ℕ} {s s′ : Store} (o : Opening file n q s) (o′ : Opening file′ n q′ s′) (d : Demands o) (d′ : Demands o′) → Independent o o′ d d′
+independent {n = n} o o′ d d′ xs xs′ r r′ =
     (λ e. image-injective n _ _ (sym (d .rest xs r) ∙ e ∙ d′ .rest xs′ r′), λ e. d .rest xs r ∙ ap (image n) e ∙ sym (d′ .rest xs′ r′))

@@ -1,12 +1,10 @@
 -- Lists of calls of start, begin and step with all that they are lent, on any memory: which of them belong to a run, and what may
--- stand between. Types; `proofs/Theorem.antt` has a proof of each.
+-- stand between.
 use mathlib.Core.Path.{_≡_}
 use mathlib.Core.Logic.{_≢_}
 use mathlib.Core.List.{List, [], _∷_, map}
 use Prim.Native.Nat.{ℕ}
-use lib.ListN.{length}
 use Rattle.refusal.specs.Number.{numberOf}
-use Rattle.table.specs.File.{Bytes, shapeOf}
 use Rattle.machine.specs.Update.{update}
 use Rattle.machine.specs.Calls as run
 use Rattle.machine.specs.Calls.{Call, Answer, Event}
@@ -15,7 +13,6 @@ use Rattle.stepping.specs.declared.call.StartAnswer.{StartAnswer}
 use Rattle.stepping.specs.declared.call.StartAnswer.the-variants as start
 use Rattle.stepping.specs.Call.{startOf, beginOf, stepOf, beginSaid, stepSaid}
 use Rattle.stepping.specs.Runs.{Store, runOf, historyOf}
-use Rattle.stepping.specs.Opening.{Opening}
 
 -- ---- Memory that is lent
 
@@ -114,12 +111,3 @@ pub record SameRun (p : Places) (m : Memory) (es : List Event) (m′ : Memory) :
   pub history : es ≡ historyOf (m .table (p .table)) (map (λ e. e .call) es) (storeAt p m)
   pub store : storeAt p m′ ≡ runOf (m .table (p .table)) (map (λ e. e .call) es) (storeAt p m)
   pub table : m′ .table ≡ m .table
-
-abbrev pub Between : Places → Type 0
-Between p = (m m′ : Memory) (xs : List LentCall) (es : List Event) → Around p m xs es m′ → SameRun p m es m′
-
--- An accepted start, on whatever memory, opens the next run at its places.
-abbrev pub OpensNext : Places → Type 0
-OpensNext p =
-    (m : Memory) → Bytes (m .table (p .table)) → serveLent (LentStart p) m .answer ≡ Opened
-    → Opening (m .table (p .table)) (length (m .row (p .row))) (shapeOf (m .table (p .table)) .start) (storeAt p (serveLent (LentStart p) m .memory))

@@ -1,20 +1,14 @@
 -- How a run opens. Every statement about runs is over an opening; an accepted start is one, with the table's start state.
 use mathlib.Core.Path.{_≡_}
 use mathlib.Core.Bool.{true}
-use mathlib.Core.Logic.{_↔_}
 use mathlib.Core.List.{List}
-use Prim.Native.Nat.{ℕ, _+_, _≤_}
-use lib.ListN.{length}
+use Prim.Native.Nat.{ℕ, _≤_}
 use Rattle.cells.specs.Image.{image}
 use Rattle.table.specs.declared.Shape.{Shape}
-use Rattle.table.specs.declared.Checked.the-variants as table
-use Rattle.table.specs.File.{Bytes, shapeOf}
-use Rattle.table.specs.Check.{checkOf}
 use Rattle.machine.specs.Object.{Object}
 use Rattle.machine.specs.Demand.{Shown}
 use Rattle.records.specs.declared.record.Task.{Task}
 use Rattle.transition.specs.Object.{ObjectTable, objectOf}
-use Rattle.stepping.specs.declared.call.StartAnswer.the-variants.{Started}
 use Rattle.stepping.specs.Call.{idleRow, startOf}
 use Rattle.stepping.specs.Runs.{Store, shownBy}
 
@@ -35,19 +29,6 @@ objectIn {file} o = objectOf file (o .shape)
 abbrev pub shown : {file : List ℕ} {n q : ℕ} {s : Store} → Opening file n q s → Shown (List ℕ)
 shown {file} {s = s} o = shownBy file s
 
--- ---- Start
-
 -- What a call of start leaves.
 abbrev pub startStore : List ℕ → List ℕ → List Task → Store
 startStore file cells row = record { cells = startOf file cells row .cells; row = startOf file cells row .row }
-
--- Start is accepted exactly if the table is, there are 1 to 8 records, and there is one cell more.
-abbrev pub Startable : (file cells : List ℕ) → List Task → Type 0
-Startable file cells row =
-    (startOf file cells row .answer ≡ Started)
-    ↔ (((shape : Shape) × (checkOf file ≡ table.Accepted shape)) × (1 ≤ length row) × (length row ≤ 8) × (length cells ≡ length row + 1))
-
--- An accepted start of a file of bytes opens a run in the table's start state.
-abbrev pub StartOpens : (file cells : List ℕ) → List Task → Type 0
-StartOpens file cells row =
-    Bytes file → startOf file cells row .answer ≡ Started → Opening file (length row) (shapeOf file .start) (startStore file cells row)

@@ -1,24 +1,97 @@
--- What is proved of every run, as types over an opening. `proofs/Theorem.antt` has a proof of each.
+-- What is proved of start, begin and step, as types over the definitions of the calls. `proofs/Theorem.antt` has a proof of each.
 use mathlib.Core.Path.{_≡_}
 use mathlib.Core.Bool.{true, false}
-use mathlib.Core.Logic.{_↔_}
+use mathlib.Core.Logic.{_↔_, _≢_}
 use mathlib.Core.List.{List}
 use Prim.Native.Nat.{ℕ, _+_, _*_, _≤_}
-use lib.ListN.{getD}
+use lib.ListN.{length, getD}
+use Rattle.refusal.specs.declared.Refusal.{Refusal}
 use Rattle.cells.specs.Image.{image}
 use Rattle.cells.specs.Layout.{kindIn}
+use Rattle.table.specs.declared.Shape.{Shape}
+use Rattle.table.specs.declared.Checked.the-variants as table
+use Rattle.table.specs.File.{Bytes, shapeOf}
+use Rattle.table.specs.Check.{checkOf}
 use Rattle.table.specs.Entries.{changing}
-use Rattle.machine.specs.Object.{Object}
-use Rattle.machine.specs.Calls.{Call, Step, Ended, Refused}
+use Rattle.machine.specs.Calls.{Call, Step, Ended, Refused, Event}
 use Rattle.machine.specs.History.{Pends, pending, Rest}
-use Rattle.machine.specs.Demand.{Shown, Demand}
+use Rattle.machine.specs.Demand.{Demand}
 use Rattle.machine.specs.Ending.{Emptyings}
 use Rattle.records.specs.declared.record.Task.{Task}
 use Rattle.transition.specs.declared.access.Access.the-variants.{Read, Write}
-use Rattle.stepping.specs.Call.{taskAt}
-use Rattle.stepping.specs.Access.{accessOf}
+use Rattle.stepping.specs.declared.call.Answer.{Answer}
+use Rattle.stepping.specs.declared.call.Answer.the-variants as step
+use Rattle.stepping.specs.declared.call.StartAnswer.the-variants.{Started}
+use Rattle.stepping.specs.Step.{touched, performOf}
+use Rattle.stepping.specs.Call.{startOf, Stepped, stepTask, taskAt, stepOf}
+use Rattle.stepping.specs.Access.{accessOf, givenBack}
 use Rattle.stepping.specs.Runs.{Store, runOf}
-use Rattle.stepping.specs.Opening.{Opening, objectIn, shown}
+use Rattle.stepping.specs.Opening.{Opening, objectIn, shown, startStore}
+use Rattle.stepping.specs.Lent.{Memory, Places, storeAt, LentCall, LentStart, Opened, serveLent, Around, SameRun}
+
+-- ---- The access rule, for all arguments
+
+-- A step that is not refused.
+abbrev pub Unrefused : Answer → Type 0
+Unrefused a = (reason : Refusal) → a ≡ step.Refused reason → ⊥
+
+-- A step that is not refused leaves exactly the cells that its access makes of the old ones.
+abbrev pub MakesAccess : (file cells : List ℕ) (n i : ℕ) → Task → Type 0
+MakesAccess file cells n i t =
+    Unrefused (stepTask file cells n i t .answer) → stepTask file cells n i t .cells ≡ performOf cells (accessOf file n i t)
+
+-- Two steps of one table, n, task and record that are not refused and whose accesses give back the same have one answer and
+-- leave one record, whatever else the cells hold.
+abbrev pub FollowsResult : (file cells others : List ℕ) (n i : ℕ) → Task → Type 0
+FollowsResult file cells others n i t =
+    Unrefused (stepTask file cells n i t .answer) → Unrefused (stepTask file others n i t .answer)
+    → givenBack cells (accessOf file n i t) ≡ givenBack others (accessOf file n i t)
+    → (stepTask file cells n i t .answer ≡ stepTask file others n i t .answer) × (stepTask file cells n i t .task ≡ stepTask file others n i t .task)
+
+-- The same of a step on a row, by the record of its task.
+abbrev pub RowMakesAccess : (file cells : List ℕ) → List Task → ℕ → Type 0
+RowMakesAccess file cells row i =
+    Unrefused (stepOf file cells row i .answer) → stepOf file cells row i .cells ≡ performOf cells (accessOf file (length row) i (taskAt row i))
+
+abbrev pub RowFollowsResult : (file cells others : List ℕ) → List Task → ℕ → Type 0
+RowFollowsResult file cells others row i =
+    Unrefused (stepOf file cells row i .answer) → Unrefused (stepOf file others row i .answer)
+    → givenBack cells (accessOf file (length row) i (taskAt row i)) ≡ givenBack others (accessOf file (length row) i (taskAt row i))
+    → (stepOf file cells row i .answer ≡ stepOf file others row i .answer) × (stepOf file cells row i .row ≡ stepOf file others row i .row)
+
+-- Two outcomes with one answer and one record, which leave one word in cell k.
+pub record Alike (k : ℕ) (one other : Stepped) : Type 0 where
+  pub answer : one .answer ≡ other .answer
+  pub task : one .task ≡ other .task
+  pub word : getD (one .cells) k 0 ≡ getD (other .cells) k 0
+
+-- An outcome that leaves as many cells as there were, all but cell k as they were.
+pub record Elsewhere (cells : List ℕ) (k : ℕ) (out : Stepped) : Type 0 where
+  pub long : length (out .cells) ≡ length cells
+  pub rest : (j : ℕ) → j ≢ k → getD (out .cells) j 0 ≡ getD cells j 0
+
+-- Record, answer and written word of a step follow from the table, n, the record and what the touched cell holds alone.
+abbrev pub Local : (file cells others : List ℕ) (n i : ℕ) → Task → Type 0
+Local file cells others n i t =
+    length cells ≡ length others → getD cells (touched (accessOf file n i t)) 0 ≡ getD others (touched (accessOf file n i t)) 0
+    → Alike (touched (accessOf file n i t)) (stepTask file cells n i t) (stepTask file others n i t)
+
+-- A step touches one cell: every other one is as it was.
+abbrev pub OneCell : (file cells : List ℕ) (n i : ℕ) → Task → Type 0
+OneCell file cells n i t = Elsewhere cells (touched (accessOf file n i t)) (stepTask file cells n i t)
+
+-- ---- Start
+
+-- Start is accepted exactly if the table is, there are 1 to 8 records, and there is one cell more.
+abbrev pub Startable : (file cells : List ℕ) → List Task → Type 0
+Startable file cells row =
+    (startOf file cells row .answer ≡ Started)
+    ↔ (((shape : Shape) × (checkOf file ≡ table.Accepted shape)) × (1 ≤ length row) × (length row ≤ 8) × (length cells ≡ length row + 1))
+
+-- An accepted start of a file of bytes opens a run in the table's start state.
+abbrev pub StartOpens : (file cells : List ℕ) → List Task → Type 0
+StartOpens file cells row =
+    Bytes file → startOf file cells row .answer ≡ Started → Opening file (length row) (shapeOf file .start) (startStore file cells row)
 
 -- ---- Demands 2 and 3 as one statement: the plain book, linearizability, the image at rest, a bound of own steps
 
@@ -34,10 +107,10 @@ abbrev pub SharperDemands : {file : List ℕ} {n q : ℕ} {s : Store} → Openin
 SharperDemands {n = n} o = DemandsWithin (n * n * (16 * n + 47) + 98 * n + 32) o
 
 -- At two points of rest, of one run or of two with equally many tasks, the cells are equal exactly if the states are.
-abbrev pub Independent : (b b′ : Object) (n q q′ c c′ : ℕ) (run run′ : Shown (List ℕ)) → Demand b n q c (image n) run → Demand b′ n q′ c′ (image n) run′ → Type 0
-Independent b b′ n q q′ c c′ run run′ d d′ =
-    (xs xs′ : List Call) → Rest b (run .history xs) → Rest b′ (run′ .history xs′)
-    → (run .cells xs ≡ run′ .cells xs′) ↔ (d .book xs .state ≡ d′ .book xs′ .state)
+abbrev pub Independent : {file file′ : List ℕ} {n q q′ : ℕ} {s s′ : Store} (o : Opening file n q s) (o′ : Opening file′ n q′ s′) → Demands o → Demands o′ → Type 0
+Independent o o′ d d′ =
+    (xs xs′ : List Call) → Rest (objectIn o) (shown o .history xs) → Rest (objectIn o′) (shown o′ .history xs′)
+    → (shown o .cells xs ≡ shown o′ .cells xs′) ↔ (d .book xs .state ≡ d′ .book xs′ .state)
 
 -- ---- Refusals
 
@@ -70,3 +143,15 @@ EmptyAt cells t = kindIn (getD cells (t + 1) 0) ≡ 0
 -- The step that empties the announcement of a task is the one that ends its changing operation, and no other call empties it.
 abbrev pub Emptied : {file : List ℕ} {n q : ℕ} {s : Store} → Opening file n q s → Type 0
 Emptied {n = n} o = Emptyings (objectIn o) n EmptyAt (shown o)
+
+-- ---- Other calls between those of a run
+
+-- Whatever stands between, if it is refused or on other memory, the calls of the run are a run.
+abbrev pub Between : Places → Type 0
+Between p = (m m′ : Memory) (xs : List LentCall) (es : List Event) → Around p m xs es m′ → SameRun p m es m′
+
+-- An accepted start, on whatever memory, opens the next run at its places.
+abbrev pub OpensNext : Places → Type 0
+OpensNext p =
+    (m : Memory) → Bytes (m .table (p .table)) → serveLent (LentStart p) m .answer ≡ Opened
+    → Opening (m .table (p .table)) (length (m .row (p .row))) (shapeOf (m .table (p .table)) .start) (storeAt p (serveLent (LentStart p) m .memory))
