@@ -14,6 +14,7 @@ use Rattle.records.specs.declared.record.Task.{Task}
 use Rattle.stepping.specs.Call.{BeginOutcome, beginOf, StepOutcome, stepOf, taskAt}
 use Rattle.stepping.specs.Opening.{Opening}
 use Rattle.stepping.specs.Runs.{Store, serveOf, runOf}
+use Rattle.stepping.proofs.Between.{store-same}
 use Rattle.stepping.proofs.Theorem.{touches-one-cell}
 use Rattle.bench_row.specs.First.{firstCount, beginFirst, stepFirst}
 use Rattle.bench_session.specs.declared.run.Bench.{Bench}
@@ -50,9 +51,6 @@ few-records n = at (leb n 9) refl
 pub front-taken : {A : Type 0} (k : ℕ) (new old : List A) → k ≤ length old → length new ≡ length (take k old) → take k (new ++ drop k old) ≡ new
 front-taken k new old h e = take-at new (drop k old) k (e ∙ length-take-le k old h)
 
-pub store-of : {cells other : List ℕ} {row another : List Task} → cells ≡ other → row ≡ another → _≡_ {A = Store} (record { cells = cells; row = row }) (record { cells = other; row = another })
-store-of e f k = record { cells = e k; row = f k }
-
 -- ---- A step and a begin
 
 -- What they leave of what is lent.
@@ -88,7 +86,7 @@ module _ (file : List ℕ) (bench : Bench) (nine : NineHeld bench) where
     -- A step on the bench is one on what is lent.
     pub lent-step : serveOf file (Step t) (lent bench) .store ≡ lent (stepBench file bench t .bench)
     unfolding stepBench stepHeld stepFirst
-    lent-step = sym (store-of (front-taken (cellCount (bench .tasks)) (stepOut file bench t .cells) (bench .cells) cells-room step-cells) (front-taken (firstCount (bench .tasks)) (stepOut file bench t .row) (bench .row) row-room step-row))
+    lent-step = sym (store-same (front-taken (cellCount (bench .tasks)) (stepOut file bench t .cells) (bench .cells) cells-room step-cells) (front-taken (firstCount (bench .tasks)) (stepOut file bench t .row) (bench .row) row-room step-row))
 
     pub same-tasks : stepBench file bench t .bench .tasks ≡ bench .tasks
     unfolding stepBench stepHeld
@@ -105,7 +103,7 @@ module _ (file : List ℕ) (bench : Bench) (nine : NineHeld bench) where
 
     pub lent-begin : serveOf file (Begin t o) (lent bench) .store ≡ lent (beginBench file bench t o .bench)
     unfolding beginBench beginFirst
-    lent-begin = sym (store-of refl (front-taken (firstCount (bench .tasks)) (beginOut file bench t o .row) (bench .row) row-room begin-row))
+    lent-begin = sym (store-same refl (front-taken (firstCount (bench .tasks)) (beginOut file bench t o .row) (bench .row) row-room begin-row))
 
 -- ---- The situation of a bench
 

@@ -18,7 +18,8 @@ use Rattle.bench_row.specs.First.{firstCount, startFirst}
 use Rattle.bench_session.specs.declared.run.Bench.{Bench}
 use Rattle.bench_session.specs.Run.{cellCount, startHeld, startBench, opened}
 use Rattle.bench_session.proofs.Openings.{start-sizes}
-use Rattle.bench_session.proofs.Situations.{Consistent, during, few-cells, few-records, front-taken, store-of}
+use Rattle.stepping.proofs.Between.{store-same}
+use Rattle.bench_session.proofs.Situations.{Consistent, during, few-cells, few-records, front-taken}
 
 -- Fewer than nine records are lent as they are counted.
 counted : (k : ℕ) → firstCount k ≤ 8 → firstCount k ≡ k
@@ -57,5 +58,5 @@ module _ (file : List ℕ) (bytes : Bytes file) (bench : Bench) (c : Consistent 
             situation = during
                 (subst (λ (m : ℕ). Opening file m (shapeOf file .start) (startStore file lentCells lentRow)) n (start-opens file lentCells lentRow bytes e))
                 []
-                (sym (store-of (front-taken (cellCount k) (out .cells) (bench .cells) cells-room (s .cells-kept)) (front-taken (firstCount k) (out .row) (bench .row) row-room (s .row-kept))));
+                (sym (store-same (front-taken (cellCount k) (out .cells) (bench .cells) cells-room (s .cells-kept)) (front-taken (firstCount k) (out .row) (bench .row) row-room (s .row-kept))));
           }

@@ -27,8 +27,8 @@ use Rattle.stepping.proofs.Refused.{refused-start, refused-begin-row, r
 written-same : {A : Type 0} (f : ℕ → A) (j : ℕ) (x : A) → x ≡ f j → (k : ℕ) → update f j x k ≡ f k
 written-same f j x e = update-all f j x (λ k v. v ≡ f k) e (λ k _. refl)
 
--- The cells and the row at a run's places, from two equations.
-store-same : {cells cells′ : List ℕ} {row row′ : List Task} → cells ≡ cells′ → row ≡ row′ → _≡_ {A = Store} (record { cells = cells; row = row }) (record { cells = cells′; row = row′ })
+-- What a run hands on, from two equations.
+pub store-same : {cells cells′ : List ℕ} {row row′ : List Task} → cells ≡ cells′ → row ≡ row′ → _≡_ {A = Store} (record { cells = cells; row = row }) (record { cells = cells′; row = row′ })
 store-same e f k = record { cells = e k; row = f k }
 
 -- ---- One call
