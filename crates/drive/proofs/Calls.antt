@@ -10,7 +10,8 @@ use Rattle.stepping.specs.declared.call.BeginAnswer.{BeginAnswer}
 use Rattle.stepping.specs.declared.call.Begin.{Begin}
 use Rattle.stepping.specs.declared.call.Step.{Step}
 use Rattle.records.specs.Record.{idleTask}
-use Rattle.stepping.specs.Call.{taskAt, beginTask, BeginOutcome, beginOf, Stepped, stepTask, StepOutcome, stepOf}
+use Rattle.stepping.specs.Call.{taskAt, beginTask, BeginOutcome, beginOf, stepTask, StepOutcome, stepOf}
+use Rattle.stepping.specs.Step.{TaskOutcome}
 
 -- A task past the row's end has an idle record.
 past-idle : (ys : List Task) (t : ℕ) → length ys ≤ t → taskAt ys t ≡ idleTask 0
@@ -54,7 +55,7 @@ StepSaid file cs ys t cs′ ys′ a = _≡_ {A = StepOutcome} (record { cells = 
 
 -- The cells, the record and the answer at the exit of a step for one task.
 abbrev pub StepTaskSaid : (file cs : List ℕ) (n t : ℕ) → Task → List ℕ → Task → Answer → Type 0
-StepTaskSaid file cs n t own cs′ own′ a = _≡_ {A = Stepped} (record { cells = cs′; task = own′; answer = a }) (stepTask file cs n t own)
+StepTaskSaid file cs n t own cs′ own′ a = _≡_ {A = TaskOutcome} (record { cells = cs′; task = own′; answer = a }) (stepTask file cs n t own)
 
 pub step-record : (file cs : List ℕ) (n t : ℕ) (own : Task) (r : Step) (cs′ : List ℕ) (a : Answer)
     → StepTaskSaid file cs n t own cs′ (r .task) (r .answer) → a ≡ r .answer → StepTaskSaid file cs n t own cs′ (r .task) a
@@ -63,7 +64,7 @@ step-record file cs n t own r cs′ a e ea = ap (λ (b : Answer). record { cells
 pub step-inside : (file cs : List ℕ) (ys : List Task) (t : ℕ) (cs′ : List ℕ) (own′ : Task) (a : Answer)
     → StepTaskSaid file cs (length ys) t (taskAt ys t) cs′ own′ a → StepSaid file cs ys t cs′ (set ys t own′) a
 unfolding stepOf
-step-inside file cs ys t cs′ own′ a e = ap (λ (s : Stepped). record { cells = s .cells; row = set ys t (s .task); answer = s .answer }) e
+step-inside file cs ys t cs′ own′ a e = ap (λ (s : TaskOutcome). record { cells = s .cells; row = set ys t (s .task); answer = s .answer }) e
 
 -- The cells and the answer of a step for an idle record.
 abbrev pub IdleStepSaid : (file cs : List ℕ) (n t : ℕ) → List ℕ → Answer → Type 0
@@ -73,7 +74,7 @@ IdleStepSaid file cs n t cs′ a = (cs′ ≡ stepTask file cs n t (idleTask 0) 
 pub step-idle : (file cs : List ℕ) (n t : ℕ) (own : Task) (r : Step) (cs′ : List ℕ) → StepTaskSaid file cs n t own cs′ (r .task) (r .answer) → own ≡ idleTask 0 → IdleStepSaid file cs n t cs′ (r .answer)
 step-idle file cs n t own r cs′ e i =
     let there = e ∙ ap (λ (w : Task). stepTask file cs n t w) i in
-    (ap (λ (s : Stepped). s .cells) there, ap (λ (s : Stepped). s .answer) there)
+    (ap (λ (s : TaskOutcome). s .cells) there, ap (λ (s : TaskOutcome). s .answer) there)
 
 pub step-past : (file cs : List ℕ) (ys : List Task) (t : ℕ) (cs′ : List ℕ) (a : Answer)
     → length ys ≤ t → IdleStepSaid file cs (length ys) t cs′ a → StepSaid file cs ys t cs′ ys a

@@ -1,10 +1,10 @@
 -- The access rule: a step that is not refused makes the access that was planned, and follows from what it gave back.
-use mathlib.Core.Path.{_≡_, refl, ap}
+use mathlib.Core.Path.{_≡_, refl}
 use mathlib.Core.Bool.{Bool, true, false, cond}
 use mathlib.Core.List.{List}
 use Prim.Native.Nat.{ℕ, _+_}
 use lib.Dec.{eqb, ltb}
-use lib.ListN.{length, getD, set}
+use lib.ListN.{length, getD}
 use Rattle.refusal.specs.declared.Refusal.{Refusal}
 use Rattle.refusal.specs.declared.Refusal.the-variants as cause
 use Rattle.table.specs.declared.Shape.{Shape}
@@ -17,14 +17,14 @@ use Rattle.transition.specs.declared.access.Access.{Access}
 use Rattle.transition.specs.Transition.{planOf, usedInRange}
 use Rattle.stepping.specs.declared.call.Admitted.{Admitted}
 use Rattle.stepping.specs.declared.call.Admitted.the-variants as admitted
-use Rattle.stepping.specs.Step.{touched, performOf, cellInForm}
-use Rattle.stepping.specs.Call.{admitOf, Stepped, refuseStep, touch, stepFrom, stepIn, stepTask, taskAt, stepOf}
+use Rattle.stepping.specs.Step.{touched, performOf, cellInForm, TaskOutcome}
+use Rattle.stepping.specs.Call.{admitOf, refuseStep, touch, stepFrom, stepIn, stepTask}
 use Rattle.stepping.specs.Access.{accessFrom, accessIn, accessOf, givenBack}
-use Rattle.stepping.specs.Statement.{Unrefused, MakesAccess, FollowsResult, RowMakesAccess, RowFollowsResult}
+use Rattle.stepping.specs.Statement.{Unrefused, MakesAccess, FollowsResult}
 use Rattle.stepping.proofs.Refused.{choice}
 
 -- An outcome that made an access, unless it is refused.
-record Makes (cells : List ℕ) (a : Access) (out : Stepped) : Type 0 where
+record Makes (cells : List ℕ) (a : Access) (out : TaskOutcome) : Type 0 where
   made : Unrefused (out .answer) → out .cells ≡ performOf cells a
 
 module _ (file cells : List ℕ) (n i : ℕ) (t : Task) where
@@ -57,19 +57,19 @@ module _ (file cells : List ℕ) (n i : ℕ) (t : Task) where
   makes-access = makes-in (admitOf file n) .made
 
 -- Two outcomes with one answer and one record, unless one of them is refused.
-record Agree (one other : Stepped) : Type 0 where
+record Agree (one other : TaskOutcome) : Type 0 where
   agree : Unrefused (one .answer) → Unrefused (other .answer) → (one .answer ≡ other .answer) × (one .task ≡ other .task)
 
 module _ (file cells others : List ℕ) (n i : ℕ) (t : Task) where
   -- A refused outcome on either side agrees with any.
-  first-refused : (out : Stepped) (c : Refusal) → Agree (refuseStep cells t c) out
+  first-refused : (out : TaskOutcome) (c : Refusal) → Agree (refuseStep cells t c) out
   first-refused out c = record { agree = λ u v. absurd (u c refl) }
 
-  second-refused : (out : Stepped) (c : Refusal) → Agree out (refuseStep others t c)
+  second-refused : (out : TaskOutcome) (c : Refusal) → Agree out (refuseStep others t c)
   second-refused out c = record { agree = λ u v. absurd (v c refl) }
 
   -- Each side tests first, and is refused with c if the test fails.
-  both-tested : (b d : Bool) (c : Refusal) (x y : Stepped) → Agree x y → Agree (cond b x (refuseStep cells t c)) (cond d y (refuseStep others t c))
+  both-tested : (b d : Bool) (c : Refusal) (x y : TaskOutcome) → Agree x y → Agree (cond b x (refuseStep cells t c)) (cond d y (refuseStep others t c))
   both-tested true true c x y p = p
   both-tested true false c x y p = second-refused x c
   both-tested false d c x y p = first-refused _ c
@@ -100,15 +100,3 @@ module _ (file cells others : List ℕ) (n i : ℕ) (t : Task) where
   pub follows-result : FollowsResult file cells others n i t
   unfolding accessOf stepTask
   follows-result u v e = agree-in (admitOf file n) e .agree u v
-
--- ---- On a row
-
-pub row-makes-access : (file cells : List ℕ) (row : List Task) (i : ℕ) → RowMakesAccess file cells row i
-unfolding stepOf
-row-makes-access file cells row i u = makes-access file cells (length row) i (taskAt row i) u
-
-pub row-follows-result : (file cells others : List ℕ) (row : List Task) (i : ℕ) → RowFollowsResult file cells others row i
-unfolding stepOf
-row-follows-result file cells others row i u v e =
-    let (answer, task) = follows-result file cells others (length row) i (taskAt row i) u v e in
-    (answer, ap (set row i) task)

@@ -3,7 +3,7 @@ use mathlib.Core.Path.{_≡_, refl, ap, sym}
 use mathlib.Core.Bool.{true, cond}
 use mathlib.Core.Logic.{_↔_}
 use mathlib.Core.List.{List, _∷_}
-use Prim.Native.Nat.{ℕ, _+_, _<_, _≤_}
+use Prim.Native.Nat.{ℕ, zero, suc, _+_, _<_, _≤_}
 use native.Mathlib.Numerals.{add-one}
 use native.Mathlib.Omega.{arith}
 use borrow.Author.Tests.{ne-eqb}
@@ -79,6 +79,11 @@ module _ (file : List ℕ) (shape : Shape) (table : ObjectTable file shape) (n :
     touched-in-form (WriteAnnouncement j a) f = announcement-touched j f
     touched-in-form (SwapHead h g) f = head-in-form file shape table n most (m .head) (ranged .head)
     touched-in-form (SwapAnnouncement j a c) f = announcement-touched j (f .0)
+
+    -- So is every cell.
+    pub encoded-in-form : (k : ℕ) → k ≤ n → cellInForm shape n k (getD (encodeCells n m) k 0) ≡ true
+    encoded-in-form zero h = touched-in-form ReadHead tt
+    encoded-in-form (suc j) h = rw (← add-one j) (announcement-touched j (omega arith))
 
     -- What the access gives back.
     pub result-simulates : (a : machine.Access) → AccessFormed a → foundOf (getD (encodeCells n m) (touched (encodeAccess a)) 0) (encodeAccess a) ≡ encodeResult (result a m)

@@ -20,7 +20,6 @@ use Rattle.stepping.specs.Runs.{Store, serveOf, runOf, historyOf}
 use Rattle.stepping.specs.Lent as lent
 use Rattle.stepping.specs.Lent.{Memory, Places, storeAt, LentCall, Says, startAnswered, serveLent, OfRun, IsRefused, Apart, Around, done, own, refused, apart, SameRun}
 use Rattle.stepping.specs.Statement.{Between, OpensNext}
-use Rattle.stepping.proofs.Starts.{accepted-start}
 use Rattle.stepping.proofs.Refused.{refused-start, refused-begin-row, refused-step-row}
 
 -- Writing what a place holds leaves every place as it was.
@@ -120,12 +119,9 @@ between p m m′ xs es (own {x = x} {y = y} {a = a} {es = more-es} r said more) 
 
 -- ---- The next run
 
-opened : (a : StartAnswer) → startAnswered a ≡ lent.Opened → a ≡ start.Started
+opened : (a : StartAnswer) → startAnswered a ≡ lent.RunOpened → a ≡ start.Started
 opened start.Started e = refl
 opened (start.Refused c) e = absurd (let z : _≡_ {A = ℕ} 0 1 = cc in omega arith)
 
 pub opens-next : (p : Places) → OpensNext p
-opens-next p m bytes e =
-    let file = m .table (p .table) in
-    let o = accepted-start file (m .cells (p .cells)) (m .row (p .row)) bytes (opened _ e) in
-    rw (update-same (m .cells) (p .cells) (startOf file (m .cells (p .cells)) (m .row (p .row)) .cells), update-same (m .row) (p .row) (startOf file (m .cells (p .cells)) (m .row (p .row)) .row)) o
+opens-next p m e = (opened _ e, store-same (update-same (m .cells) (p .cells) _) (update-same (m .row) (p .row) _))

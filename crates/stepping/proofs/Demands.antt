@@ -1,10 +1,12 @@
 -- A run of the calls: after an opening, cells, row and answers are the machine's, whatever the calls, and so demands 2 and 3
 -- are met.
 use mathlib.Core.Path.{_≡_, ap, sym, _∙_}
+use mathlib.Core.Bool.{true}
 use mathlib.Core.Logic.{_↔_}
 use mathlib.Core.List.{List, [], _∷_, _++_}
 use Prim.Native.Nat.{ℕ, _<_, _≤_}
 use native.Mathlib.Omega.{arith}
+use lib.ListN.{getD}
 use Rattle.cells.specs.Image as words
 use Rattle.machine.specs.Object.{Object}
 use Rattle.machine.specs.Lawful.{Opens}
@@ -29,12 +31,13 @@ use Rattle.machine.proofs.Update.{clash}
 use Rattle.machine.proofs.WaitFree.{bound-ceiling, pending-steps}
 use Rattle.transition.specs.Encoding.{encodeAccess}
 use Rattle.transition.proofs.Lawful.{object-lawful}
+use Rattle.stepping.specs.Step.{cellInForm}
 use Rattle.stepping.specs.Access.{accessOf}
 use Rattle.stepping.specs.Runs.{Store, Outcome, serveOf, runOf, historyOf}
 use Rattle.stepping.specs.Opening.{Opening, objectIn, shown}
 use Rattle.stepping.specs.Statement.{DemandsWithin, recordAfter, EmptyAt, Emptied}
 use Rattle.stepping.specs.Encoding.{encodeCells, encodeConfig}
-use Rattle.stepping.proofs.Accesses.{encoded-empty}
+use Rattle.stepping.proofs.Accesses.{encoded-empty, encoded-in-form}
 use Rattle.stepping.proofs.Simulation.{InRange, serve-simulates, run-simulates, history-simulates, access-simulates}
 use Rattle.stepping.proofs.Starts.{start-cells, start-row}
 
@@ -98,6 +101,10 @@ module _ {file : List ℕ} {n q : ℕ} {s : Store} (o : Opening file n q s) wher
     -- A begin or a step of a run is refused with 7 to 10 alone: 4, 11 and 12 never occur.
     pub refused-opened : (x : Call) (k : ℕ) → serveOf file x (runOf file xs s) .answer ≡ Refused k → (7 ≤ k) × (k ≤ 10)
     refused-opened x k e = refuses (serving (objectIn o) n (machineRun xs) x) k (sym (answer-opened x) ∙ e)
+
+    -- Every cell is in form.
+    pub formed-opened : (k : ℕ) → k ≤ n → cellInForm (o .shape) n k (getD (runOf file xs s .cells) k 0) ≡ true
+    formed-opened k h = rw run-opened (encoded-in-form file (o .shape) (o .table) n (o .few) (machineRun xs .memory) (in-range xs .formed .memory) k h)
 
     -- The announcements in the cells are those of the machine.
     announcement-opened : (t : ℕ) → t < n → EmptyAt (runOf file xs s .cells) t ↔ (content (machineRun xs .memory) t ≡ Empty)

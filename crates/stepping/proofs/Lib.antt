@@ -5,6 +5,7 @@ pub mod Parts
 pub mod Refused
 pub mod Local
 pub mod AccessRule
+pub mod ByRecord
 pub mod Tables
 pub mod Records
 pub mod Accesses

@@ -19,15 +19,15 @@ use Rattle.stepping.specs.declared.call.Admitted.{Admitted}
 use Rattle.stepping.specs.declared.call.Admitted.the-variants as admitted
 use Rattle.records.specs.Record.{readRecord}
 use Rattle.transition.specs.Transition.{planOf, usedInRange}
-use Rattle.stepping.specs.Step.{touched, leftOf, performOf, cellInForm}
-use Rattle.stepping.specs.Call.{admitOf, Stepped, refuseStep, touch, stepFrom, stepIn, stepTask}
+use Rattle.stepping.specs.Step.{touched, leftOf, performOf, cellInForm, TaskOutcome}
+use Rattle.stepping.specs.Call.{admitOf, refuseStep, touch, stepFrom, stepIn, stepTask}
 use Rattle.stepping.proofs.Lists.{set-alike}
 use Rattle.stepping.specs.Access.{accessFrom, accessIn, accessOf}
 use Rattle.stepping.specs.Statement.{Alike, Elsewhere}
 
 -- ---- Any two lists of cells that agree on the touched cell
 
-choice : {k : ℕ} (b : Bool) (x y x′ y′ : Stepped) → Alike k x x′ → Alike k y y′ → Alike k (cond b x y) (cond b x′ y′)
+choice : {k : ℕ} (b : Bool) (x y x′ y′ : TaskOutcome) → Alike k x x′ → Alike k y y′ → Alike k (cond b x y) (cond b x′ y′)
 choice true x y x′ y′ p q = p
 choice false x y x′ y′ p q = q
 
@@ -69,7 +69,7 @@ module _ (file cells others : List ℕ) (n i : ℕ) (t : Task) (long : length ce
 -- ---- The other cells
 
 module _ (file cells : List ℕ) (n i : ℕ) (t : Task) where
-  either : {k : ℕ} (b : Bool) (x y : Stepped) → Elsewhere cells k x → Elsewhere cells k y → Elsewhere cells k (cond b x y)
+  either : {k : ℕ} (b : Bool) (x y : TaskOutcome) → Elsewhere cells k x → Elsewhere cells k y → Elsewhere cells k (cond b x y)
   either true x y p q = p
   either false x y p q = q
 

@@ -17,11 +17,11 @@ use Rattle.transition.specs.declared.access.Next.{Next}
 use Rattle.stepping.specs.declared.call.Answer.the-variants as step
 use Rattle.stepping.specs.declared.call.Step.{Step}
 use Rattle.transition.specs.Transition.{planOf, usedInRange, nextOf}
-use Rattle.stepping.specs.Step.{touched, foundOf, performOf, cellInForm, advanceOf, answerOf}
-use Rattle.stepping.specs.Call.{Stepped, refuseStep, stepFrom}
+use Rattle.stepping.specs.Step.{touched, foundOf, performOf, cellInForm, advanceOf, answerOf, TaskOutcome}
+use Rattle.stepping.specs.Call.{refuseStep, stepFrom}
 
 -- The cells, record and answer that a step leaves.
-abbrev pub left : List ℕ → Step → Stepped
+abbrev pub left : List ℕ → Step → TaskOutcome
 left cells r = record { cells = cells; task = r .task; answer = r .answer }
 
 -- What a refused step leaves.

@@ -26,8 +26,8 @@ use Rattle.stepping.specs.declared.call.BeginAnswer.the-variants as begi
 use Rattle.stepping.specs.declared.call.Begin.{Begin}
 use Rattle.records.specs.Record.{idleTask, readRecord}
 use Rattle.transition.specs.Transition.{planOf, usedInRange}
-use Rattle.stepping.specs.Step.{touched, cellInForm, answerOf}
-use Rattle.stepping.specs.Call.{withRow, admitOf, StartOutcome, refuseStart, withCells, filled, startOf, admitStartOf, refuseBegin, beginFrom, beginIn, beginTask, Stepped, refuseStep, ledTo, touch, stepFrom, stepIn, stepTask, taskAt, beginOf, stepOf}
+use Rattle.stepping.specs.Step.{touched, cellInForm, answerOf, TaskOutcome, ledTo}
+use Rattle.stepping.specs.Call.{withRow, admitOf, StartOutcome, refuseStart, withCells, filled, startOf, admitStartOf, refuseBegin, beginFrom, beginIn, beginTask, refuseStep, touch, stepFrom, stepIn, stepTask, taskAt, beginOf, stepOf}
 use Rattle.stepping.proofs.Lists.{set-held}
 
 -- What holds of both sides of a choice holds of the choice.
@@ -90,7 +90,7 @@ accepts t Turn reason e = let z : _≡_ {A = ℕ} 0 1 = cc in omega arith
 accepts t (End r) reason e = let z : _≡_ {A = ℕ} 0 1 = cc in omega arith
 
 module _ (file cells : List ℕ) (n i : ℕ) (t : Task) where
-  record StepKept (out : Stepped) : Type 0 where
+  record StepKept (out : TaskOutcome) : Type 0 where
     same : (reason : Refusal) → out .answer ≡ step.Refused reason → out ≡ refuseStep cells t reason
 
   step-refused : (c : Refusal) → StepKept (refuseStep cells t c)
@@ -131,4 +131,4 @@ module _ (file : List ℕ) (row : List Task) (i : ℕ) where
   unfolding stepOf
   refused-step-row cells reason e =
       let kept = refused-step file cells (length row) i (taskAt row i) reason e in
-      (ap (λ (out : Stepped). set row i (out .task)) kept ∙ set-held row i (idleTask 0), ap (λ (out : Stepped). out .cells) kept)
+      (ap (λ (out : TaskOutcome). set row i (out .task)) kept ∙ set-held row i (idleTask 0), ap (λ (out : TaskOutcome). out .cells) kept)

@@ -36,8 +36,8 @@ use Rattle.transition.specs.Object.{ObjectTable, objectOf}
 use Rattle.transition.specs.Encoding.{kept, encodeTask, encodeAccess, encodeResult}
 use Rattle.transition.proofs.Plans.{plan-simulates}
 use Rattle.transition.proofs.Nexts.{next-simulates}
-use Rattle.stepping.specs.Step.{advanceOf, answerOf}
-use Rattle.stepping.specs.Call.{admitOf, Stepped, refuseStep, stepFrom, stepTask, stepOf, begunTask, refuseBegin, beginFrom, beginTask, beginOf, taskAt, stepSaid, beginSaid}
+use Rattle.stepping.specs.Step.{advanceOf, answerOf, TaskOutcome}
+use Rattle.stepping.specs.Call.{admitOf, refuseStep, stepFrom, stepTask, stepOf, begunTask, refuseBegin, beginFrom, beginTask, beginOf, taskAt, stepSaid, beginSaid}
 use Rattle.stepping.specs.Encoding.{encodeCells, encodeRow, encodeConfig, encodeServed}
 use Rattle.stepping.specs.Runs.{serveOf, runOf, historyOf}
 use Rattle.stepping.proofs.Tables.{tabulate-length, tabulate-at, tabulate-set}
@@ -84,7 +84,7 @@ module _ (file : List ℕ) (shape : Shape) (table : ObjectTable file shape) (n :
     task-at below = tabulate-at n (λ k. encodeTask (c .task k)) (idleTask 0) i below
 
     -- A step of the row is the step of its task; a refused one leaves the row.
-    step-store : (out : Stepped) → stepTask file (encodeCells n (c .memory)) n i (taskAt (encodeRow n (c .task)) i) ≡ out → serveOf file (Step i) (encodeConfig n c) ≡ record { store = record { cells = out .cells; row = set (encodeRow n (c .task)) i (out .task) }; answer = stepSaid (out .answer) }
+    step-store : (out : TaskOutcome) → stepTask file (encodeCells n (c .memory)) n i (taskAt (encodeRow n (c .task)) i) ≡ out → serveOf file (Step i) (encodeConfig n c) ≡ record { store = record { cells = out .cells; row = set (encodeRow n (c .task)) i (out .task) }; answer = stepSaid (out .answer) }
     unfolding stepOf
     step-store out e = rw (row-length, e)
 

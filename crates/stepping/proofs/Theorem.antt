@@ -14,14 +14,17 @@ use Rattle.machine.proofs.OwnSteps.{next-step}
 use Rattle.machine.proofs.WaitFree.{bound-ceiling}
 use Rattle.records.specs.declared.record.Task.{Task}
 use Rattle.transition.specs.Encoding.{encodeAccess}
+use Rattle.stepping.specs.Call.{StartOutcome}
 use Rattle.stepping.specs.Runs.{Store}
 use Rattle.stepping.specs.Opening.{Opening, objectIn}
 use Rattle.stepping.specs.Lent.{Places}
-use Rattle.stepping.specs.Statement.{Demands, SharperDemands, Independent, Refusals, Endings, Emptied, MakesAccess, FollowsResult, RowMakesAccess, RowFollowsResult, Local, OneCell, Startable, StartOpens, Between, OpensNext}
+use Rattle.stepping.specs.Statement.{MakesAccess, FollowsResult, Local, OneCell, BeginByRecord, StepByRecord, StartUnchanged, BeginUnchanged, StepUnchanged, Startable, StartOpens, Demands, SharperDemands, Independent, CellsInForm, Refusals, Endings, Emptied, Between, OpensNext}
 use Rattle.stepping.proofs.Between.{between, opens-next}
-use Rattle.stepping.proofs.Demands.{opens, history-opened, answer-opened, access-opened, refused-opened, demands, emptied}
+use Rattle.stepping.proofs.Demands.{opens, formed-opened, history-opened, answer-opened, access-opened, refused-opened, demands, emptied}
 use Rattle.stepping.proofs.Local.{step-local, step-elsewhere}
-use Rattle.stepping.proofs.AccessRule.{makes-access, follows-result, row-makes-access, row-follows-result}
+use Rattle.stepping.proofs.AccessRule.{makes-access, follows-result}
+use Rattle.stepping.proofs.ByRecord.{begin-by-record, step-by-record}
+use Rattle.stepping.proofs.Refused.{refused-start, refused-begin-row, refused-step-row}
 use Rattle.stepping.proofs.Starts.{startable, accepted-start}
 
 -- ---- The access rule
@@ -33,18 +36,31 @@ access-made = makes-access
 pub result-followed : (file cells others : List ℕ) (n i : ℕ) (t : Task) → FollowsResult file cells others n i t
 result-followed = follows-result
 
-pub row-access-made : (file cells : List ℕ) (row : List Task) (i : ℕ) → RowMakesAccess file cells row i
-row-access-made = row-makes-access
-
-pub row-result-followed : (file cells others : List ℕ) (row : List Task) (i : ℕ) → RowFollowsResult file cells others row i
-row-result-followed = row-follows-result
-
 -- A step looks at one cell, and touches no other.
 pub looks-at-one-cell : (file cells others : List ℕ) (n i : ℕ) (t : Task) → Local file cells others n i t
 looks-at-one-cell file cells others n i t long e = step-local file cells others n i t long e
 
 pub touches-one-cell : (file cells : List ℕ) (n i : ℕ) (t : Task) → OneCell file cells n i t
 touches-one-cell file cells n i t = step-elsewhere file cells n i t
+
+-- ---- A row, and refusals
+
+pub begins-by-record : (file : List ℕ) (row : List Task) (i o : ℕ) → BeginByRecord file row i o
+begins-by-record = begin-by-record
+
+pub steps-by-record : (file cells : List ℕ) (row : List Task) (i : ℕ) → StepByRecord file cells row i
+steps-by-record = step-by-record
+
+pub start-unchanged : (file cells : List ℕ) (row : List Task) → StartUnchanged file cells row
+start-unchanged file cells row c e =
+    let same = refused-start cells row file c e in
+    (ap (λ (out : StartOutcome). out .cells) same, ap (λ (out : StartOutcome). out .row) same)
+
+pub begin-unchanged : (file : List ℕ) (row : List Task) (i o : ℕ) → BeginUnchanged file row i o
+begin-unchanged = refused-begin-row
+
+pub step-unchanged : (file cells : List ℕ) (row : List Task) (i : ℕ) → StepUnchanged file cells row i
+step-unchanged file cells row i c e = let (same-row, same-cells) = refused-step-row file row i cells c e in (same-cells, same-row)
 
 -- ---- Start
 
@@ -62,6 +78,9 @@ module _ {file : List ℕ} {n q : ℕ} {s : Store} (o : Opening file n q s) wher
 
   pub sharper-demands-met : SharperDemands o
   sharper-demands-met = demands o (n * n * (16 * n + 47) + 98 * n + 32) (omega arith)
+
+  pub cells-in-form : CellsInForm o
+  cells-in-form = formed-opened o
 
   pub refusals-known : Refusals o
   refusals-known xs x k e = refused-opened o xs x k e

@@ -25,7 +25,6 @@ use Rattle.records.specs.declared.phase.PhaseRead.{PhaseRead}
 use Rattle.records.specs.declared.phase.PhaseRead.the-variants as record-phase
 use Rattle.machine.specs.Calls as paper
 use Rattle.transition.specs.declared.access.Access.{Access}
-use Rattle.transition.specs.declared.access.Next.{Next}
 use Rattle.stepping.specs.declared.call.Answer.{Answer}
 use Rattle.stepping.specs.declared.call.Answer.the-variants as step
 use Rattle.stepping.specs.declared.call.Admitted.{Admitted}
@@ -38,8 +37,8 @@ use Rattle.stepping.specs.declared.call.BeginAnswer.the-variants as begi
 use Rattle.stepping.specs.declared.call.Begin.{Begin}
 use Rattle.records.specs.Phase.{phaseNumber}
 use Rattle.records.specs.Record.{idleTask, readRecord}
-use Rattle.transition.specs.Transition.{planOf, usedInRange, nextOf}
-use Rattle.stepping.specs.Step.{touched, foundOf, performOf, cellInForm, advanceOf, answerOf}
+use Rattle.transition.specs.Transition.{planOf, usedInRange}
+use Rattle.stepping.specs.Step.{touched, cellInForm, TaskOutcome, served}
 
 -- ---- What the answers say: document 01's number and values for each case
 
@@ -147,38 +146,22 @@ beginTask file n i o t = beginIn file n i o t (admitOf file n)
 
 -- ---- Step: 1, 2, 3, 5, 6, 7, 11, 10, 12, then 4 on the one entry that it uses
 
--- The cells, the record and the answer of one task's step.
-pub record Stepped : Type 0 where
-  pub cells : List ℕ
-  pub task : Task
-  pub answer : Answer
-
-abbrev pub refuseStep : List ℕ → Task → Refusal → Stepped
+abbrev pub refuseStep : List ℕ → Task → Refusal → TaskOutcome
 refuseStep cells t c = record { cells = cells; task = t; answer = step.Refused c }
 
--- What a step leads to, by what its access gives back.
-abbrev pub ledTo : List ℕ → Shape → List ℕ → ℕ → Task → Phase → Access → Next
-ledTo file shape cells i t f a = nextOf file shape i (t .priority) t f (foundOf (getD cells (touched a) 0) a)
-
--- An accepted step makes its access; record and answer follow from the old record and what came back.
-abbrev pub served : List ℕ → Shape → List ℕ → (n i : ℕ) → Task → Phase → Access → Stepped
-served file shape cells n i t f a =
-    let x = ledTo file shape cells i t f a in
-    record { cells = performOf cells a; task = advanceOf n t x; answer = answerOf t x }
-
 -- 12 on the touched cell, then 4 on the entry used.
-abbrev pub touch : List ℕ → Shape → List ℕ → (n i : ℕ) → Task → Phase → Access → Stepped
+abbrev pub touch : List ℕ → Shape → List ℕ → (n i : ℕ) → Task → Phase → Access → TaskOutcome
 touch file shape cells n i t f a =
     cond (cellInForm shape n (touched a) (getD cells (touched a) 0))
     (cond (usedInRange file shape t (getD cells (touched a) 0) f) (served file shape cells n i t f a) (refuseStep cells t cause.Entry))
     (refuseStep cells t cause.Cell)
 
-abbrev pub stepFrom : List ℕ → Shape → List ℕ → (n i : ℕ) → Task → PhaseRead → Stepped
+abbrev pub stepFrom : List ℕ → Shape → List ℕ → (n i : ℕ) → Task → PhaseRead → TaskOutcome
 stepFrom file shape cells n i t (record-phase.Refused c) = refuseStep cells t c
 stepFrom file shape cells n i t (record-phase.Known f) =
     cond (eqb (t .phase) 0) (refuseStep cells t cause.Idle) (touch file shape cells n i t f (planOf file shape i (t .priority) t f))
 
-abbrev pub stepIn : List ℕ → List ℕ → (n i : ℕ) → Task → Admitted → Stepped
+abbrev pub stepIn : List ℕ → List ℕ → (n i : ℕ) → Task → Admitted → TaskOutcome
 stepIn file cells n i t (admitted.Refused c) = refuseStep cells t c
 stepIn file cells n i t (admitted.Admits c shape) =
     cond (eqb (length cells) (n + 1))
@@ -186,7 +169,7 @@ stepIn file cells n i t (admitted.Admits c shape) =
     (refuseStep cells t cause.Cells)
 
 -- One task's part: the record t of task i in a row of n.
-unfoldable pub stepTask : List ℕ → List ℕ → (n i : ℕ) → Task → Stepped
+unfoldable pub stepTask : List ℕ → List ℕ → (n i : ℕ) → Task → TaskOutcome
 stepTask file cells n i t = stepIn file cells n i t (admitOf file n)
 
 -- ---- Begin and step on a row: one task's record is handed over and changed there; the others remain

@@ -41,13 +41,13 @@ pub data LentCall : Type 0 where
 
 -- A start opens a run or is refused with a number; begin and step say what they say in a run.
 pub data LentAnswer : Type 0 where
-  Opened : LentAnswer
-  Unopened : (number : ℕ) → LentAnswer
+  RunOpened : LentAnswer
+  RunRefused : (number : ℕ) → LentAnswer
   Says : (answer : Answer) → LentAnswer
 
 abbrev pub startAnswered : StartAnswer → LentAnswer
-startAnswered start.Started = Opened
-startAnswered (start.Refused c) = Unopened (numberOf c)
+startAnswered start.Started = RunOpened
+startAnswered (start.Refused c) = RunRefused (numberOf c)
 
 -- What a call leaves, and what it answers: it writes the cells and the row that it is lent, and no other place.
 pub record Lent : Type 0 where
@@ -80,8 +80,8 @@ pub data OfRun (p : Places) : LentCall → Call → Type 0 where
 
 -- A refused call.
 abbrev pub IsRefused : LentAnswer → Type 0
-IsRefused Opened = ⊥
-IsRefused (Unopened k) = Unit {0}
+IsRefused RunOpened = ⊥
+IsRefused (RunRefused k) = Unit {0}
 IsRefused (Says run.Begun) = ⊥
 IsRefused (Says run.Running) = ⊥
 IsRefused (Says (run.Ended r k)) = ⊥

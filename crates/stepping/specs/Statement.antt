@@ -3,7 +3,7 @@ use mathlib.Core.Path.{_≡_}
 use mathlib.Core.Bool.{true, false}
 use mathlib.Core.Logic.{_↔_, _≢_}
 use mathlib.Core.List.{List}
-use Prim.Native.Nat.{ℕ, _+_, _*_, _≤_}
+use Prim.Native.Nat.{ℕ, _+_, _*_, _<_, _≤_}
 use lib.ListN.{length, getD}
 use Rattle.refusal.specs.declared.Refusal.{Refusal}
 use Rattle.cells.specs.Image.{image}
@@ -21,13 +21,14 @@ use Rattle.records.specs.declared.record.Task.{Task}
 use Rattle.transition.specs.declared.access.Access.the-variants.{Read, Write}
 use Rattle.stepping.specs.declared.call.Answer.{Answer}
 use Rattle.stepping.specs.declared.call.Answer.the-variants as step
-use Rattle.stepping.specs.declared.call.StartAnswer.the-variants.{Started}
-use Rattle.stepping.specs.Step.{touched, performOf}
-use Rattle.stepping.specs.Call.{startOf, Stepped, stepTask, taskAt, stepOf}
+use Rattle.stepping.specs.declared.call.BeginAnswer.the-variants as begin
+use Rattle.stepping.specs.declared.call.StartAnswer.the-variants as start
+use Rattle.stepping.specs.Step.{touched, performOf, cellInForm, TaskOutcome}
+use Rattle.stepping.specs.Call.{startOf, beginTask, stepTask, taskAt, beginOf, stepOf}
 use Rattle.stepping.specs.Access.{accessOf, givenBack}
 use Rattle.stepping.specs.Runs.{Store, runOf}
 use Rattle.stepping.specs.Opening.{Opening, objectIn, shown, startStore}
-use Rattle.stepping.specs.Lent.{Memory, Places, storeAt, LentCall, LentStart, Opened, serveLent, Around, SameRun}
+use Rattle.stepping.specs.Lent.{Memory, Places, storeAt, LentCall, LentStart, RunOpened, serveLent, Around, SameRun}
 
 -- ---- The access rule, for all arguments
 
@@ -48,25 +49,14 @@ FollowsResult file cells others n i t =
     → givenBack cells (accessOf file n i t) ≡ givenBack others (accessOf file n i t)
     → (stepTask file cells n i t .answer ≡ stepTask file others n i t .answer) × (stepTask file cells n i t .task ≡ stepTask file others n i t .task)
 
--- The same of a step on a row, by the record of its task.
-abbrev pub RowMakesAccess : (file cells : List ℕ) → List Task → ℕ → Type 0
-RowMakesAccess file cells row i =
-    Unrefused (stepOf file cells row i .answer) → stepOf file cells row i .cells ≡ performOf cells (accessOf file (length row) i (taskAt row i))
-
-abbrev pub RowFollowsResult : (file cells others : List ℕ) → List Task → ℕ → Type 0
-RowFollowsResult file cells others row i =
-    Unrefused (stepOf file cells row i .answer) → Unrefused (stepOf file others row i .answer)
-    → givenBack cells (accessOf file (length row) i (taskAt row i)) ≡ givenBack others (accessOf file (length row) i (taskAt row i))
-    → (stepOf file cells row i .answer ≡ stepOf file others row i .answer) × (stepOf file cells row i .row ≡ stepOf file others row i .row)
-
 -- Two outcomes with one answer and one record, which leave one word in cell k.
-pub record Alike (k : ℕ) (one other : Stepped) : Type 0 where
+pub record Alike (k : ℕ) (one other : TaskOutcome) : Type 0 where
   pub answer : one .answer ≡ other .answer
   pub task : one .task ≡ other .task
   pub word : getD (one .cells) k 0 ≡ getD (other .cells) k 0
 
 -- An outcome that leaves as many cells as there were, all but cell k as they were.
-pub record Elsewhere (cells : List ℕ) (k : ℕ) (out : Stepped) : Type 0 where
+pub record Elsewhere (cells : List ℕ) (k : ℕ) (out : TaskOutcome) : Type 0 where
   pub long : length (out .cells) ≡ length cells
   pub rest : (j : ℕ) → j ≢ k → getD (out .cells) j 0 ≡ getD cells j 0
 
@@ -80,18 +70,51 @@ Local file cells others n i t =
 abbrev pub OneCell : (file cells : List ℕ) (n i : ℕ) → Task → Type 0
 OneCell file cells n i t = Elsewhere cells (touched (accessOf file n i t)) (stepTask file cells n i t)
 
+-- ---- A row, and a record that is lent alone
+
+-- The row after a call for task i: its record is the one given, and every other is as it was.
+pub record PutBack (row : List Task) (i : ℕ) (own : Task) (after : List Task) : Type 0 where
+  pub long : length after ≡ length row
+  pub named : i < length row → taskAt after i ≡ own
+  pub others : (j : ℕ) → j ≢ i → taskAt after j ≡ taskAt row j
+
+-- Begin and step on a row are the calls for its task's record alone, with n the row's number of records: one answer, the same cells,
+-- and the record put back. No other record is looked at.
+abbrev pub BeginByRecord : List ℕ → List Task → (i o : ℕ) → Type 0
+BeginByRecord file row i o =
+    let out = beginTask file (length row) i o (taskAt row i) in
+    (beginOf file row i o .answer ≡ out .answer) × PutBack row i (out .task) (beginOf file row i o .row)
+
+abbrev pub StepByRecord : (file cells : List ℕ) → List Task → ℕ → Type 0
+StepByRecord file cells row i =
+    let out = stepTask file cells (length row) i (taskAt row i) in
+    (stepOf file cells row i .answer ≡ out .answer) × (stepOf file cells row i .cells ≡ out .cells) × PutBack row i (out .task) (stepOf file cells row i .row)
+
+-- ---- A refused call changes nothing
+
+abbrev pub StartUnchanged : (file cells : List ℕ) → List Task → Type 0
+StartUnchanged file cells row =
+    (c : Refusal) → startOf file cells row .answer ≡ start.Refused c → (startOf file cells row .cells ≡ cells) × (startOf file cells row .row ≡ row)
+
+abbrev pub BeginUnchanged : List ℕ → List Task → (i o : ℕ) → Type 0
+BeginUnchanged file row i o = (c : Refusal) → beginOf file row i o .answer ≡ begin.Refused c → beginOf file row i o .row ≡ row
+
+abbrev pub StepUnchanged : (file cells : List ℕ) → List Task → ℕ → Type 0
+StepUnchanged file cells row i =
+    (c : Refusal) → stepOf file cells row i .answer ≡ step.Refused c → (stepOf file cells row i .cells ≡ cells) × (stepOf file cells row i .row ≡ row)
+
 -- ---- Start
 
 -- Start is accepted exactly if the table is, there are 1 to 8 records, and there is one cell more.
 abbrev pub Startable : (file cells : List ℕ) → List Task → Type 0
 Startable file cells row =
-    (startOf file cells row .answer ≡ Started)
+    (startOf file cells row .answer ≡ start.Started)
     ↔ (((shape : Shape) × (checkOf file ≡ table.Accepted shape)) × (1 ≤ length row) × (length row ≤ 8) × (length cells ≡ length row + 1))
 
 -- An accepted start of a file of bytes opens a run in the table's start state.
 abbrev pub StartOpens : (file cells : List ℕ) → List Task → Type 0
 StartOpens file cells row =
-    Bytes file → startOf file cells row .answer ≡ Started → Opening file (length row) (shapeOf file .start) (startStore file cells row)
+    Bytes file → startOf file cells row .answer ≡ start.Started → Opening file (length row) (shapeOf file .start) (startStore file cells row)
 
 -- ---- Demands 2 and 3 as one statement: the plain book, linearizability, the image at rest, a bound of own steps
 
@@ -112,7 +135,11 @@ Independent o o′ d d′ =
     (xs xs′ : List Call) → Rest (objectIn o) (shown o .history xs) → Rest (objectIn o′) (shown o′ .history xs′)
     → (shown o .cells xs ≡ shown o′ .cells xs′) ↔ (d .book xs .state ≡ d′ .book xs′ .state)
 
--- ---- Refusals
+-- ---- Every point of a run
+
+-- Every cell is in form: cell 0 as the head, every other as an announcement.
+abbrev pub CellsInForm : {file : List ℕ} {n q : ℕ} {s : Store} → Opening file n q s → Type 0
+CellsInForm {n = n} o = (xs : List Call) (k : ℕ) → k ≤ n → cellInForm (o .shape) n k (getD (shown o .cells xs) k 0) ≡ true
 
 -- In a run begin and step are refused with 7, 8, 9 and 10 alone: 4, 11 and 12 never occur.
 abbrev pub Refusals : {file : List ℕ} {n q : ℕ} {s : Store} → Opening file n q s → Type 0
@@ -150,8 +177,9 @@ Emptied {n = n} o = Emptyings (objectIn o) n EmptyAt (shown o)
 abbrev pub Between : Places → Type 0
 Between p = (m m′ : Memory) (xs : List LentCall) (es : List Event) → Around p m xs es m′ → SameRun p m es m′
 
--- An accepted start, on whatever memory, opens the next run at its places.
+-- An accepted start, on whatever memory, leaves at its places what start leaves, and so opens the next run there.
 abbrev pub OpensNext : Places → Type 0
 OpensNext p =
-    (m : Memory) → Bytes (m .table (p .table)) → serveLent (LentStart p) m .answer ≡ Opened
-    → Opening (m .table (p .table)) (length (m .row (p .row))) (shapeOf (m .table (p .table)) .start) (storeAt p (serveLent (LentStart p) m .memory))
+    (m : Memory) → let file = m .table (p .table) in let cells = m .cells (p .cells) in let row = m .row (p .row) in
+    serveLent (LentStart p) m .answer ≡ RunOpened
+    → (startOf file cells row .answer ≡ start.Started) × (storeAt p (serveLent (LentStart p) m .memory) ≡ startStore file cells row)

@@ -7,6 +7,7 @@ use lib.ListN.{getD, set}
 use Rattle.cells.specs.Form.{headInForm, announcementInForm}
 use Rattle.table.specs.declared.Shape.{Shape}
 use Rattle.records.specs.declared.record.Task.{Task}
+use Rattle.records.specs.declared.phase.Phase.{Phase}
 use Rattle.records.specs.declared.phase.Phase.the-variants.{Poll}
 use Rattle.records.specs.Phase.{phaseNumber}
 use Rattle.records.specs.Record.{idleTask}
@@ -16,6 +17,7 @@ use Rattle.transition.specs.declared.access.Found.{Found}
 use Rattle.transition.specs.declared.access.Found.the-variants.{Word, Stored, Swapped, Unswapped}
 use Rattle.transition.specs.declared.access.Next.{Next}
 use Rattle.transition.specs.declared.access.Next.the-variants.{Go, Turn, End}
+use Rattle.transition.specs.Transition.{nextOf}
 use Rattle.stepping.specs.declared.call.Answer.{Answer}
 use Rattle.stepping.specs.declared.call.Answer.the-variants.{Running, Ended}
 
@@ -61,3 +63,19 @@ abbrev pub answerOf : Task → Next → Answer
 answerOf t (Go f v h a) = Running
 answerOf t Turn = Running
 answerOf t (End r) = Ended r (t .steps + 1)
+
+-- The cells, the record and the answer of one task's step.
+pub record TaskOutcome : Type 0 where
+  pub cells : List ℕ
+  pub task : Task
+  pub answer : Answer
+
+-- What a step leads to, by what its access gives back.
+abbrev pub ledTo : List ℕ → Shape → List ℕ → ℕ → Task → Phase → Access → Next
+ledTo file shape cells i t f a = nextOf file shape i (t .priority) t f (foundOf (getD cells (touched a) 0) a)
+
+-- An accepted step makes its access; record and answer follow from the old record and what came back.
+abbrev pub served : List ℕ → Shape → List ℕ → (n i : ℕ) → Task → Phase → Access → TaskOutcome
+served file shape cells n i t f a =
+    let x = ledTo file shape cells i t f a in
+    record { cells = performOf cells a; task = advanceOf n t x; answer = answerOf t x }

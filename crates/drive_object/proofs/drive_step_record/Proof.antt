@@ -40,7 +40,8 @@ use Rattle.records.proofs.record.Task as T
 use Rattle.stepping.specs.declared.call.Answer.{Answer}
 use Rattle.stepping.proofs.call.Answer as N
 use Rattle.stepping.proofs.call.Answer.Laws as N′
-use Rattle.stepping.specs.Call.{Stepped, stepTask}
+use Rattle.stepping.specs.Call.{stepTask}
+use Rattle.stepping.specs.Step.{TaskOutcome}
 use Rattle.drive.proofs.Values.{slice, OwnFile}
 use Rattle.drive.proofs.Calls.{StepTaskSaid}
 use Rattle.drive.proofs.RecordCalls.{StepRecord, step-record-args, step-record-passed, to-step-record, StepRecordOwned, goes-step-record}
@@ -65,7 +66,7 @@ stayed = (stay-none-slice (0 ∷ []) tt (plain (λ _. u8)) yes, (gave-slice (1 �
 -- what the contract says at exit, from what the call and the word say
 word-said : (file cells : List ℕ) (n t : ℕ) (own : Task) (cs′ : List ℕ) (own′ : Task) (a : Answer) (r : ℕ) → StepTaskSaid file cells n t own cs′ own′ a → r ≡ stepWord a
     → (cs′ ≡ stepTask file cells n t own .cells) × (own′ ≡ stepTask file cells n t own .task) × (r ≡ stepWord (stepTask file cells n t own .answer))
-word-said file cells n t own cs′ own′ a r e er = (ap (λ (b : Stepped). b .cells) e, ap (λ (b : Stepped). b .task) e, er ∙ ap (λ (b : Stepped). stepWord (b .answer)) e)
+word-said file cells n t own cs′ own′ a r e er = (ap (λ (b : TaskOutcome). b .cells) e, ap (λ (b : TaskOutcome). b .task) e, er ∙ ap (λ (b : TaskOutcome). stepWord (b .answer)) e)
 
 module _ {M : Type 1} (𝓤 : URA M) (H : Heap 𝓤) (A : Atoms 𝓤) (W : Given 𝓤 H A) (at-mem : Memory → SProp 𝓤) (run : Routine → Fun 𝓤) (κ₀ κ₁ κ₂ : Lft) (q₀ q₁ q₂ : Share)
     (file cells : RefT (List ℕ)) (n t : ℕ) (own : RefT Task) where
