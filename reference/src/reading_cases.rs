@@ -1,5 +1,5 @@
-//! Scripts about what is read: table files around the longest one, input that comes in pieces, and an operation of
-//! many steps. Variants of the bench that read otherwise must differ on them.
+//! Scripts about what is read: table files around the longest one, input that comes in pieces, some hundred of them, and
+//! an operation of many steps. Variants of the bench that read otherwise must differ on them.
 
 use crate::random::Random;
 use crate::script_cases::{script, Script, LISTING};
@@ -8,18 +8,27 @@ use crate::table_file::TableFile;
 
 const PIECES: [usize; 3] = [1, 3, 7];
 
+/// The input that takes some hundred reads, 456 if each gives one piece.
+const LONG_INPUT: &str = "flag listing 12 times";
+
 pub fn reading_scripts() -> Vec<Script> {
     let mut scripts = length_scripts();
     for piece in PIECES {
-        scripts.extend(inputs_in_pieces().map(|(name, input)| Script {
-            name: format!("{name} in pieces of {piece}"),
-            piece: Some(piece),
-            ..script(name, Some(TableFile::flag().to_bytes()), input)
-        }));
+        scripts.extend(inputs_in_pieces().map(|(name, input)| in_pieces(name, input, piece)));
     }
+    scripts.push(in_pieces(LONG_INPUT, &LISTING.repeat(12), 1));
     let flag = TableFile::flag().to_bytes();
     scripts.push(script("long operation", Some(flag), &long_operation()));
     scripts
+}
+
+/// A script over the flag object whose input comes through a pipe.
+fn in_pieces(name: &str, input: &str, piece: usize) -> Script {
+    Script {
+        name: format!("{name} in pieces of {piece}"),
+        piece: Some(piece),
+        ..script(name, Some(TableFile::flag().to_bytes()), input)
+    }
 }
 
 /// The longest file that is served: 256 states, 32 operations and 4,096 bytes of text.
@@ -89,6 +98,15 @@ mod tests {
         scripts.map(|script| script.name).collect()
     }
 
+    /// A variant that reads no more than some pieces of the input.
+    fn first_pieces(reads: usize) -> impl Fn(&[u8], &Script) -> String {
+        move |read, script| {
+            let length = script.input.len();
+            let end = script.piece.map_or(length, |piece| length.min(piece * reads));
+            output(read, &script.input[..end])
+        }
+    }
+
     #[test]
     fn the_longest_table_is_as_long_as_a_file_may_be() {
         assert_eq!(longest_table().len(), MOST_FILE_BYTES);
@@ -110,14 +128,20 @@ mod tests {
 
     #[test]
     fn a_short_read_taken_for_the_end() {
-        let first_piece = |read: &[u8], script: &Script| {
-            let length = script.piece.unwrap_or(script.input.len());
-            output(read, &script.input[..length])
-        };
         assert_eq!(
-            differing(first_piece).len(),
-            PIECES.len() * inputs_in_pieces().count()
+            differing(first_pieces(1)).len(),
+            PIECES.len() * inputs_in_pieces().count() + 1
         );
+    }
+
+    #[test]
+    fn a_reading_that_stops_after_some_reads() {
+        for reads in [64, 256, 400] {
+            assert_eq!(
+                differing(first_pieces(reads)),
+                [format!("{LONG_INPUT} in pieces of 1")]
+            );
+        }
     }
 
     #[test]

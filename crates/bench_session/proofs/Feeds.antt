@@ -1,5 +1,6 @@
 -- The input is fed byte by byte.
 use mathlib.Core.Path.{_≡_, refl, ap, subst, sym, _∙_}
+use mathlib.Core.Bool.{Bool, true}
 use mathlib.Core.List.{List, [], _∷_, _++_, append-assoc}
 use Prim.Native.Nat.{ℕ, _+_, _<_}
 use native.Mathlib.Numerals.{add-one}
@@ -11,7 +12,7 @@ use Rattle.bench_session.specs.declared.session.Taken.{Taken}
 use Rattle.bench_session.specs.declared.session.Tested.{Tested}
 use Rattle.table.specs.declared.Checked.{Checked}
 use Rattle.bench_lines.specs.Line.{newline}
-use Rattle.bench_session.specs.Session.{Fed, Consumed, Follows, Yields, Reports, Continues, Reached, newSession, keepByte, endLine, feedByte, feed, andThen}
+use Rattle.bench_session.specs.Session.{Fed, Consumed, Follows, Yields, Reports, Continues, Reached, newSession, keepByte, endLine, feedByte, feed, andThen, joined, mostReads}
 
 -- Byte 10 ends a line; any other byte is kept.
 pub feed-newline : (file : List ℕ) (fed : Fed) (b : ℕ) → b ≡ newline → endLine file fed ≡ feedByte file fed b
@@ -62,11 +63,24 @@ yields-as r out other e = subst (λ (o : Consumed). Yields r o) e
 pub reports-as : (r : Tested) (out other : Checked) → out ≡ other → Reports r out → Reports r other
 reports-as r out other e = subst (λ (o : Checked). Reports r o) e
 
--- What a session has reached when some bytes more have been fed.
-pub reached-none : (file : List ℕ) (session : Session) → Follows newSession session → Reached file session
-reached-none file session f = ([], follows-as session newSession (feed file newSession [] .fed) (feed-none file newSession) f)
+-- What a session has reached before the first read, and after one read more.
+pub reached-none : (file : List ℕ) (session : Session) → Follows newSession session → Reached file session true 0
+unfolding joined
+reached-none file session f = ([], (follows-as session newSession (feed file newSession [] .fed) (feed-none file newSession) f, (refl, refl)))
 
-pub reached-more : (file : List ℕ) (before after : Session) → Reached file before → Continues file before after → Reached file after
-reached-more file before after r c =
-    let whole = ap (λ (o : Consumed). o .fed) (sym (feed-parts file newSession (r .0) (c .0))) in
-    (r .0 ++ c .0, follows-as after (feed file (feed file newSession (r .0) .fed) (c .0) .fed) (feed file newSession (r .0 ++ c .0) .fed) whole (c .1 (feed file newSession (r .0) .fed) (r .1)))
+pub reached-more : (file : List ℕ) (before after : Session) (had more : Bool) (reads : ℕ) → Reached file before had reads → Continues file before after more → Reached file after more (reads + 1)
+unfolding joined
+reached-more file before after had more reads r c =
+    let earlier = joined (r .0) in
+    let whole = ap (λ (o : Consumed). o .fed) (sym (feed-parts file newSession earlier (c .0))) in (
+      c .0 ∷ r .0,
+      (
+        follows-as after (feed file (feed file newSession earlier .fed) (c .0) .fed) (feed file newSession (earlier ++ c .0) .fed) whole (c .1 .0 (feed file newSession earlier .fed) (r .1 .0)),
+        (c .1 .1, ap (λ (k : ℕ). k + 1) (r .1 .1 .1) ∙ add-one (length (r .0))),
+      ),
+    )
+
+-- The greatest number of reads.
+pub most-reads : mostReads ≡ 18446744073709551615
+unfolding mostReads
+most-reads = refl

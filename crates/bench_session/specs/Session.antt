@@ -1,9 +1,10 @@
 -- Document 01, "The bench": what the bench prints for a table file and an input, line by line, and the same byte by byte.
 use mathlib.Core.Path.{_≡_}
 use mathlib.Core.Bool.{Bool, true, false, cond}
+use mathlib.Core.Logic.{_⊎_}
 use mathlib.Core.List.{List, [], _∷_, _++_}
 use Prim.Native.Nat.{ℕ, _+_, min}
-use lib.Dec.{eqb}
+use lib.Dec.{eqb, ltb}
 use lib.ListN.{length, take}
 use Rattle.table.specs.declared.Checked.{Checked}
 use Rattle.table.specs.declared.Checked.the-variants as checked
@@ -130,10 +131,32 @@ Yields r out = Follows (out .fed) (r .session) × Spells (r .text) (out .text)
 abbrev pub Reports : Tested → Checked → Type 0
 Reports r out = (r .served ≡ isServed out) × Spells (r .text) (tableText out)
 
--- A session to which some bytes more have been fed.
-abbrev pub Continues : List ℕ → (before after : Session) → Type 0
-Continues file before after = (bytes : List ℕ) × ((fed : Fed) → Follows fed before → Follows (feed file fed bytes .fed) after)
+-- ---- The reads of the input
 
--- A session to which some bytes have been fed since the first.
-abbrev pub Reached : List ℕ → Session → Type 0
-Reached file session = (bytes : List ℕ) × Follows (feed file newSession bytes .fed) session
+-- The bytes of some reads. The last read stands first.
+unfoldable pub joined : List (List ℕ) → List ℕ
+joined [] = []
+joined (bytes ∷ earlier) = joined earlier ++ bytes
+
+-- Whether there may be more to read: unless the last read gave no byte.
+abbrev pub goesOn : List (List ℕ) → Bool
+goesOn [] = true
+goesOn (bytes ∷ earlier) = ltb 0 (length bytes)
+
+-- A session to which the bytes of one more read have been fed, and whether there are any.
+abbrev pub Continues : List ℕ → (before after : Session) → Bool → Type 0
+Continues file before after more =
+    (bytes : List ℕ) × (((fed : Fed) → Follows fed before → Follows (feed file fed bytes .fed) after) × (more ≡ ltb 0 (length bytes)))
+
+-- A session to which the bytes of all reads have been fed, whether there may be more, and the number of the reads.
+abbrev pub Reached : List ℕ → Session → Bool → ℕ → Type 0
+Reached file session more reads =
+    (parts : List (List ℕ)) × (Follows (feed file newSession (joined parts) .fed) session × ((more ≡ goesOn parts) × (reads ≡ length parts)))
+
+-- The greatest number of reads, 2^64 - 1: no input reaches it.
+unfoldable pub mostReads : ℕ
+mostReads = 18446744073709551615
+
+-- Why the reading stopped: the last read gave no byte, or all reads were made.
+abbrev pub Stopped : Bool → ℕ → Type 0
+Stopped more reads = (more ≡ false) ⊎ (reads ≡ mostReads)

@@ -4,12 +4,22 @@ use crate::session;
 use crate::session::Session;
 use libc::STDIN_FILENO;
 ghost use Rattle.io.specs.Counts.{Counts};
-ghost use Rattle.bench_session.specs.Session.{Fed, Follows, Continues, Reached, feed};
+ghost use Rattle.bench_session.specs.Session.{Fed, Follows, Continues, Reached, Stopped, feed};
 
-// The session after a part of the input, and whether there may be more.
+// Nothing says that an input ends, so the reads are counted. No input reaches this number of them.
+const MOST_READS: u64 = u64::MAX;
+
+// The session after a read, and whether the read gave a byte, so that there may be more.
 struct Part {
     session: Session,
     more: bool,
+}
+
+// The session after all reads, whether the last one gave a byte, and how many there were.
+struct Input {
+    session: Session,
+    more: bool,
+    reads: u64,
 }
 
 // A part of the input, byte by byte.
@@ -29,7 +39,7 @@ fn take_all(file: &[u8], session: Session, bytes: &[u8]) -> Session
 
 // One read of the input. An error counts as the end.
 fn read_part(file: &[u8], session: Session) -> Part
-    ensures { λ r. ⌜ Continues (now (file .entry)) session (r .session) ⌝ }
+    ensures { λ r. ⌜ Continues (now (file .entry)) session (r .session) (r .more) ⌝ }
 {
     let mut buffer = io::buffer();
     let got = libc::read(STDIN_FILENO, &mut buffer);
@@ -40,20 +50,24 @@ fn read_part(file: &[u8], session: Session) -> Part
     }
 }
 
-// The input to its end. Nothing says that it ends, so the loop counts down from a number of reads that no input reaches.
-fn read_all(file: &[u8]) -> Session
-    ensures { λ r. ⌜ Reached (now (file .entry)) r ⌝ }
+// The input to its end: the first read that gives no byte is the last.
+fn read_all(file: &[u8]) -> Input
+    ensures { λ r. ⌜ Reached (now (file .entry)) (r .session) (r .more) (r .reads) × Stopped (r .more) (r .reads) ⌝ }
 {
     let mut session = session::begin();
-    let mut turns = u64::MAX;
+    let mut reads = 0;
     let mut more = true;
-    while turns > 0 && more {
-        turns -= 1;
+    while reads < MOST_READS && more {
+        reads += 1;
         let part = read_part(file, session);
         session = part.session;
         more = part.more;
     }
-    session
+    Input {
+        session,
+        more,
+        reads,
+    }
 }
 
 // The table is tested first. Without one that is served no line is read.
@@ -61,7 +75,9 @@ fn serve_file(file: &[u8]) {
     let tested = session::test_table(file);
     output::print(tested.text);
     if tested.served {
-        output::print(session::finish(file, read_all(file)));
+        let input = read_all(file);
+        let session = input.session;
+        output::print(session::finish(file, session));
     }
 }
 

@@ -1,3 +1,6 @@
+-- The bytes that are fed are as many as the read gave.
+use mathlib.Core.Path.{ap}
+use lib.Dec.{ltb}
 use borrow.Author.Needs.{needs}
 use Rattle.bench_session.proofs.input.read_part.Statement.{statement}
 use Rattle.bench_session.proofs.input.read_part.Tie as tie
@@ -27,7 +30,7 @@ take-all-requires : tie.Need-take-all-requires
 take-all-requires c κs = search needs
 
 returns : tie.Need-returns
-returns c = (_, c .take-all .ensures)
+returns c = (_, (c .take-all .ensures, ap (ltb 0) (c .before .before .count .ensures .0 .1)))
 
 pub read-part-spec : {M : Type 1} → statement M
 read-part-spec =
