@@ -12,6 +12,7 @@ use Rattle.bench_lines.specs.declared.reply.Reply.the-variants as reply
 use Rattle.bench_lines.specs.Line.{newline, replyLine}
 use Rattle.bench_session.specs.declared.run.Bench.{Bench}
 use Rattle.bench_session.specs.Run.{unstartedBench}
+use Rattle.bench_session.specs.Statement.{WholeOutput}
 use Rattle.bench_session.specs.Session.{Fed, isServed, tableText, prefixed, linesOf, serveLine, printLines, outputOf, newSession, feedByte, feed, lastText, finishText}
 
 -- Bytes before the first line; if there is none, they are a line that the end of the input ends, unless there are no bytes.
@@ -69,15 +70,10 @@ pub output-served : (file : List ℕ) (shape : Shape) → checkOf file ≡ check
 unfolding outputOf
 output-served file shape e input = simp e
 
--- They print what the bytes and the end of the input do.
-pub output-fed : (file : List ℕ) (shape : Shape) → checkOf file ≡ checked.Accepted shape
-    → (input : List ℕ) → outputOf file input ≡ feed file newSession input .text ++ finishText file (feed file newSession input .fed)
-output-fed file shape e input = output-served file shape e input ∙ sym (fed-lines file newSession input)
-
--- Of a table that is not served the number alone is printed, whatever the input.
-pub output-refused : (file : List ℕ) (cause : Refusal) → checkOf file ≡ checked.Refused cause → (input : List ℕ) → outputOf file input ≡ replyLine (reply.Refused cause)
+-- All that is printed, from what the table's test, the bytes and the end of the input print.
+pub whole-output : (file input : List ℕ) → WholeOutput file input
 unfolding outputOf
-output-refused file cause e input = simp (e, append-nil)
+whole-output file input = ap (λ (l : List ℕ). tableText (checkOf file) ++ cond (isServed (checkOf file)) l []) (sym (fed-lines file newSession input))
 
 -- ---- The lines of an input
 

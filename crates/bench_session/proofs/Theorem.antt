@@ -23,7 +23,9 @@ use Rattle.bench_row.specs.First.{stepFirst}
 use Rattle.bench_session.specs.declared.run.Bench.{Bench}
 use Rattle.bench_session.specs.declared.run.Handled.{Handled}
 use Rattle.bench_session.specs.Run.{stepReply, stepHeld, stepBench, runsOn, finishFrom, mostTurns, finishBench}
-use Rattle.bench_session.specs.Statement.{EndsBy, benchAfter, Finishes}
+use Rattle.bench_session.specs.Statement.{EndsBy, benchAfter, Finishes, WholeOutput, CutAnywhere, ServedUnfinished}
+use Rattle.bench_session.proofs.Feeds.{feed-parts}
+use Rattle.bench_session.proofs.Outputs.{whole-output, output-unfinished}
 use Rattle.bench_session.proofs.Runs.{finish-more, finish-last, most-turns}
 use Rattle.bench_session.proofs.Openings.{pending-timely, running-pends, pending-longer, run-more}
 use Rattle.bench_session.proofs.Situations.{lent, NineHeld, nine-step, lent-step, Situation, before, during}
@@ -114,3 +116,14 @@ finishes file bytes input t = at (answerOn file bench t) refl
     at step.Running e = ends step.Running e (let c = consistent-after file bytes input in responds (c .nine) (c .situation) e)
     at (step.Ended r i) e = ends (step.Ended r i) e (last (step.Ended r i) e refl)
     at (step.Refused c) e = ends (step.Refused c) e (last (step.Refused c) e refl)
+
+-- ---- What is printed
+
+pub output-whole : (file input : List ℕ) → WholeOutput file input
+output-whole = whole-output
+
+pub cut-anywhere : (file : List ℕ) → CutAnywhere file
+cut-anywhere = feed-parts
+
+pub served-unfinished : (file input : List ℕ) → ServedUnfinished file input
+served-unfinished = output-unfinished

@@ -1,13 +1,17 @@
 -- What is proved of the bench as a whole, as types over its definitions. `proofs/Theorem.antt` has a proof of each.
 use mathlib.Core.Path.{_≡_}
-use mathlib.Core.List.{List}
+use mathlib.Core.Bool.{false, cond}
+use mathlib.Core.List.{List, [], _∷_, _++_}
 use Prim.Native.Nat.{ℕ}
+use lib.Dec.{eqb}
 use Rattle.table.specs.File.{Bytes}
+use Rattle.table.specs.Check.{checkOf}
 use Rattle.bench_lines.specs.declared.reply.Reply.{Reply}
 use Rattle.bench_lines.specs.declared.reply.Reply.the-variants as reply
 use Rattle.bench_session.specs.declared.run.Bench.{Bench}
 use Rattle.bench_session.specs.Run.{stepBench, finishBench}
-use Rattle.bench_session.specs.Session.{newSession, feed}
+use Rattle.bench_lines.specs.Line.{newline}
+use Rattle.bench_session.specs.Session.{isServed, tableText, outputOf, Fed, newSession, andThen, feed, finishText}
 
 -- How `d t` ends, by the reply of its first step: one that ends the operation or is refused is the last; after one that
 -- answers running the operation ends with a response.
@@ -25,3 +29,18 @@ benchAfter file input = feed file newSession input .fed .bench
 abbrev pub Finishes : List ℕ → Type 0
 Finishes file = Bytes file → (input : List ℕ) (t : ℕ)
     → EndsBy t (stepBench file (benchAfter file input) t .reply) (finishBench file (benchAfter file input) t .reply)
+
+-- What the session's functions give is the whole output: the text of the table's test, then, if the table is served, the texts of
+-- the input's bytes in their order and that of its end.
+abbrev pub WholeOutput : (file input : List ℕ) → Type 0
+WholeOutput file input =
+    let all = feed file newSession input in
+    outputOf file input ≡ tableText (checkOf file) ++ cond (isServed (checkOf file)) (all .text ++ finishText file (all .fed)) []
+
+-- The input may be cut anywhere.
+abbrev pub CutAnywhere : List ℕ → Type 0
+CutAnywhere file = (fed : Fed) (xs ys : List ℕ) → feed file fed (xs ++ ys) ≡ andThen (feed file fed xs) (feed file (feed file fed xs .fed) ys)
+
+-- A last line that is not empty prints the same with byte 10 after it and without.
+abbrev pub ServedUnfinished : (file input : List ℕ) → Type 0
+ServedUnfinished file input = (b : ℕ) → eqb b newline ≡ false → outputOf file (input ++ (b ∷ [])) ≡ outputOf file (input ++ (b ∷ newline ∷ []))
