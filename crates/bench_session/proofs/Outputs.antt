@@ -4,12 +4,8 @@ use mathlib.Core.Bool.{Bool, true, false, cond}
 use mathlib.Core.List.{List, [], _∷_, _++_, append-assoc, append-nil}
 use Prim.Native.Nat.{ℕ}
 use lib.Dec.{eqb}
-use Rattle.table.specs.declared.Shape.{Shape}
-use Rattle.table.specs.declared.Checked.the-variants as checked
 use Rattle.table.specs.Check.{checkOf}
-use Rattle.refusal.specs.declared.Refusal.{Refusal}
-use Rattle.bench_lines.specs.declared.reply.Reply.the-variants as reply
-use Rattle.bench_lines.specs.Line.{newline, replyLine}
+use Rattle.bench_lines.specs.Line.{newline}
 use Rattle.bench_session.specs.declared.run.Bench.{Bench}
 use Rattle.bench_session.specs.Run.{unstartedBench}
 use Rattle.bench_session.specs.Statement.{WholeOutput}
@@ -65,48 +61,10 @@ fed-lines file fed (b ∷ bs) =
     append-assoc (first .text) (feed file (first .fed) bs .text) (finishText file (feed file (first .fed) bs .fed))
     ∙ ap (λ (l : List ℕ). first .text ++ l) (fed-lines file (first .fed) bs) ∙ byte-lines file fed b bs
 
--- A table that is served: the lines in their order.
-pub output-served : (file : List ℕ) (shape : Shape) → checkOf file ≡ checked.Accepted shape → (input : List ℕ) → outputOf file input ≡ printLines file unstartedBench (linesOf input)
-unfolding outputOf
-output-served file shape e input = simp e
-
 -- All that is printed, from what the table's test, the bytes and the end of the input print.
 pub whole-output : (file input : List ℕ) → WholeOutput file input
 unfolding outputOf
 whole-output file input = ap (λ (l : List ℕ). tableText (checkOf file) ++ cond (isServed (checkOf file)) l []) (sym (fed-lines file newSession input))
-
--- ---- The lines of an input
-
--- No byte 10 among the bytes.
-pub data Unbroken : List ℕ → Type 0 where
-  none : Unbroken []
-  more : {b : ℕ} {bs : List ℕ} → eqb b newline ≡ false → Unbroken bs → Unbroken (b ∷ bs)
-
--- Lines without byte 10 in them.
-pub data AllUnbroken : List (List ℕ) → Type 0 where
-  none : AllUnbroken []
-  more : {line : List ℕ} {lines : List (List ℕ)} → Unbroken line → AllUnbroken lines → AllUnbroken (line ∷ lines)
-
--- Lines that byte 10 ends, each.
-abbrev pub closedLines : List (List ℕ) → List ℕ
-closedLines [] = []
-closedLines (line ∷ lines) = line ++ (newline ∷ closedLines lines)
-
-line-closed : (line rest : List ℕ) → Unbroken line → linesOf (line ++ (newline ∷ rest)) ≡ line ∷ linesOf rest
-unfolding linesOf
-line-closed [] rest none = refl
-line-closed (b ∷ bs) rest (more h p) = simp (h, line-closed bs rest p)
-
--- They are the lines of an input that is made of them.
-pub lines-closed : (lines : List (List ℕ)) → AllUnbroken lines → linesOf (closedLines lines) ≡ lines
-unfolding linesOf
-lines-closed [] none = refl
-lines-closed (line ∷ lines) (more h p) = line-closed line (closedLines lines) h ∙ ap (λ (ls : List (List ℕ)). line ∷ ls) (lines-closed lines p)
-
--- So what is printed for them is what each prints, in order.
-pub output-closed : (file : List ℕ) (shape : Shape) → checkOf file ≡ checked.Accepted shape
-    → (lines : List (List ℕ)) → AllUnbroken lines → outputOf file (closedLines lines) ≡ printLines file unstartedBench lines
-output-closed file shape e lines h = output-served file shape e (closedLines lines) ∙ ap (printLines file unstartedBench) (lines-closed lines h)
 
 -- A last line that is not empty is the same with byte 10 after it and without.
 lines-unfinished : (input : List ℕ) (b : ℕ) → eqb b newline ≡ false → linesOf (input ++ (b ∷ [])) ≡ linesOf (input ++ (b ∷ newline ∷ []))

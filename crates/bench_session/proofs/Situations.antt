@@ -10,7 +10,6 @@ use lib.Dec.{leb, ltb}
 use lib.ListN.{length, take, drop, length-set}
 use lib.Seq.{length-front, length-take-le, take-at}
 use Rattle.machine.specs.Calls.{Call, Begin, Step}
-use Rattle.records.specs.declared.record.Task.{Task}
 use Rattle.stepping.specs.Call.{BeginOutcome, beginOf, StepOutcome, stepOf, taskAt}
 use Rattle.stepping.specs.Opening.{Opening}
 use Rattle.stepping.specs.Runs.{Store, serveOf, runOf}

@@ -143,12 +143,13 @@ abbrev pub goesOn : List (List ℕ) → Bool
 goesOn [] = true
 goesOn (bytes ∷ earlier) = ltb 0 (length bytes)
 
--- A session to which the bytes of one more read have been fed, and whether there are any.
+-- A session to which some bytes have been fed, those of one read, and whether there are any.
 abbrev pub Continues : List ℕ → (before after : Session) → Bool → Type 0
 Continues file before after more =
     (bytes : List ℕ) × (((fed : Fed) → Follows fed before → Follows (feed file fed bytes .fed) after) × (more ≡ ltb 0 (length bytes)))
 
--- A session to which the bytes of all reads have been fed, whether there may be more, and the number of the reads.
+-- A session to which the bytes of some reads have been fed, whether there may be more, and the number of the reads. No contract can
+-- say that these are the bytes that the system call gave.
 abbrev pub Reached : List ℕ → Session → Bool → ℕ → Type 0
 Reached file session more reads =
     (parts : List (List ℕ)) × (Follows (feed file newSession (joined parts) .fed) session × ((more ≡ goesOn parts) × (reads ≡ length parts)))

@@ -10,9 +10,7 @@ use Rattle.refusal.specs.declared.Refusal.the-variants.{File, Dimensions, Lengt
 use Rattle.cells.specs.Ceiling.{ceilingSaid}
 use Rattle.cells.specs.declared.ceiling.Ceiling.{Ceiling}
 use Rattle.cells.specs.declared.ceiling.Ceiling.the-variants as ceiling
-use Rattle.table.specs.Check.{checkSaid}
 use Rattle.table.specs.declared.Shape.{Shape}
-use Rattle.table.specs.declared.Checked.{Checked}
 use Rattle.table.specs.declared.Checked.the-variants as table
 use Rattle.machine.specs.Calls as paper
 use Rattle.machine.specs.Calls.{Call}

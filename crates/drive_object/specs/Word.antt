@@ -1,5 +1,4 @@
 -- The answers of the exported calls, each as one word of 64 bits: the number and the values that it says.
-use mathlib.Core.List.{List}
 use Prim.Native.Nat.{ℕ, _+_, _*_, _/_, _%_}
 use lib.ListN.{getD}
 use Rattle.refusal.specs.Number.{Said, refused}

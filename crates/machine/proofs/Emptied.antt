@@ -1,30 +1,29 @@
 -- The step that empties an announcement is the one that ends a changing operation, at every point of a run and both ways.
 use mathlib.Core.Path.{_≡_, refl, sym, _∙_, ap, subst}
-use mathlib.Core.Bool.{Bool, true, false}
+use mathlib.Core.Bool.{true, false}
 use mathlib.Core.List.{List, [], _∷_, _++_}
-use Prim.Native.Nat.{ℕ, suc, _<_}
+use Prim.Native.Nat.{ℕ, suc}
 use native.Mathlib.Decide.{ℕ-discrete}
 use Rattle.machine.specs.Object.{Object}
 use Rattle.machine.specs.Lawful.{Opens}
 use Rattle.machine.specs.Memory.{Content, Empty, Memory}
 use Rattle.machine.specs.Machine.{Phase, Task, Next, Go, Turn, End, phaseOf, ends, advance}
-use Rattle.machine.specs.Kind.{Kind, Off, Reading, Opening, Looping, Exiting, Retracting, kind, off}
-use Rattle.machine.specs.Run.{Config, Served, start, answerOf, serve, run, history}
-use Rattle.machine.specs.Calls.{Call, Step, Answer, Ended}
-use Rattle.machine.specs.History.{Pends, pending}
+use Rattle.machine.specs.Kind.{Kind, Off, Reading, Opening, Looping, Exiting, Retracting, kind}
+use Rattle.machine.specs.Run.{Config, Served, start, answerOf, serve, run}
+use Rattle.machine.specs.Calls.{Call, Step, Ended}
+use Rattle.machine.specs.History.{Pends}
 use Rattle.machine.specs.Invariant.{content, OwnContent, Safe}
 use Rattle.machine.specs.Form.{OperationFormed, Formed}
 use Rattle.machine.specs.Ending.{EndsChanging, Emptyings}
 use Rattle.machine.proofs.Update.{clash, update-other}
 use Rattle.machine.proofs.Effect.{Effect, effect}
-use Rattle.machine.proofs.Moved.{moved, Steps}
 use Rattle.machine.proofs.Calls.{Serving, begins, begin-task, begin-operation, begin-pending, moves, step-task, step-idle, serving}
 use Rattle.machine.proofs.Own.{own-safe}
 use Rattle.machine.proofs.Safety.{safe-moved}
 use Rattle.machine.proofs.Progress.{announced, Progress, idles, reads, announces, applies, continues, retracts, progress}
 use Rattle.machine.proofs.Pending.{pendingOf, pending-is}
 use Rattle.machine.proofs.Quiet.{announces-changing}
-use Rattle.machine.proofs.OwnSteps.{OwnStep, OwnRecord, announced-content, running-step, answer-ends, own-step, own-record}
+use Rattle.machine.proofs.OwnSteps.{announced-content, running-step, answer-ends, own-step, own-record}
 use Rattle.machine.proofs.Keeps.{run-append, sound}
 use Rattle.machine.proofs.Demands.{machineShows}
 

@@ -15,7 +15,7 @@ use Rattle.stepping.specs.declared.call.BeginAnswer.{BeginAnswer}
 use Rattle.stepping.specs.declared.call.BeginAnswer.the-variants as begin
 use Rattle.stepping.specs.declared.call.StartAnswer.{StartAnswer}
 use Rattle.stepping.specs.declared.call.StartAnswer.the-variants as start
-use Rattle.stepping.specs.Call.{startOf, beginOf, stepOf, beginSaid, stepSaid, StartOutcome}
+use Rattle.stepping.specs.Call.{beginSaid, stepSaid, StartOutcome}
 use Rattle.stepping.specs.Runs.{Store, serveOf, runOf, historyOf}
 use Rattle.stepping.specs.Lent as lent
 use Rattle.stepping.specs.Lent.{Memory, Places, storeAt, LentCall, Says, startAnswered, serveLent, OfRun, IsRefused, Apart, Around, done, own, refused, apart, SameRun}

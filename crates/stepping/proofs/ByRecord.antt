@@ -1,5 +1,5 @@
 -- Begin and step on a row are the calls for its task's record alone, which is put back.
-use mathlib.Core.Path.{_≡_, refl}
+use mathlib.Core.Path.{refl}
 use mathlib.Core.List.{List}
 use Prim.Native.Nat.{ℕ}
 use lib.ListN.{length-set, set}

@@ -8,23 +8,25 @@ use Rattle.cells.specs.Image.{image}
 use Rattle.cells.specs.Layout.{announcementWord}
 use Rattle.cells.proofs.Images.{image-injective}
 use Rattle.machine.specs.Run.{history, start}
-use Rattle.machine.specs.Calls.{Call, Step}
+use Rattle.machine.specs.Calls.{Step}
 use Rattle.machine.specs.History.{Pends, pending}
 use Rattle.machine.proofs.OwnSteps.{next-step}
 use Rattle.machine.proofs.WaitFree.{bound-ceiling}
 use Rattle.records.specs.declared.record.Task.{Task}
 use Rattle.transition.specs.Encoding.{encodeAccess}
+use Rattle.stepping.specs.declared.call.Begin.{Begin}
+use Rattle.stepping.specs.Step.{TaskOutcome}
 use Rattle.stepping.specs.Call.{StartOutcome}
 use Rattle.stepping.specs.Runs.{Store}
 use Rattle.stepping.specs.Opening.{Opening, objectIn}
 use Rattle.stepping.specs.Lent.{Places}
-use Rattle.stepping.specs.Statement.{MakesAccess, FollowsResult, Local, OneCell, BeginByRecord, StepByRecord, StartUnchanged, BeginUnchanged, StepUnchanged, Startable, StartOpens, Demands, SharperDemands, Independent, CellsInForm, Refusals, Endings, Emptied, Between, OpensNext}
+use Rattle.stepping.specs.Statement.{MakesAccess, FollowsResult, Local, OneCell, BeginByRecord, StepByRecord, StartUnchanged, BeginUnchanged, StepUnchanged, BeginRecordUnchanged, StepRecordUnchanged, Startable, StartOpens, Demands, SharperDemands, Independent, CellsInForm, Refusals, Endings, Emptied, Between, OpensNext}
 use Rattle.stepping.proofs.Between.{between, opens-next}
 use Rattle.stepping.proofs.Demands.{opens, formed-opened, history-opened, answer-opened, access-opened, refused-opened, demands, emptied}
 use Rattle.stepping.proofs.Local.{step-local, step-elsewhere}
 use Rattle.stepping.proofs.AccessRule.{makes-access, follows-result}
 use Rattle.stepping.proofs.ByRecord.{begin-by-record, step-by-record}
-use Rattle.stepping.proofs.Refused.{refused-start, refused-begin-row, refused-step-row}
+use Rattle.stepping.proofs.Refused.{refused-start, refused-begin, refused-step, refused-begin-row, refused-step-row}
 use Rattle.stepping.proofs.Starts.{startable, accepted-start}
 
 -- ---- The access rule
@@ -61,6 +63,14 @@ begin-unchanged = refused-begin-row
 
 pub step-unchanged : (file cells : List ℕ) (row : List Task) (i : ℕ) → StepUnchanged file cells row i
 step-unchanged file cells row i c e = let (same-row, same-cells) = refused-step-row file row i cells c e in (same-cells, same-row)
+
+pub begin-record-unchanged : (file : List ℕ) (n i o : ℕ) (t : Task) → BeginRecordUnchanged file n i o t
+begin-record-unchanged file n i o t c e = ap (λ (out : Begin). out .task) (refused-begin t file n i o c e)
+
+pub step-record-unchanged : (file cells : List ℕ) (n i : ℕ) (t : Task) → StepRecordUnchanged file cells n i t
+step-record-unchanged file cells n i t c e =
+    let same = refused-step file cells n i t c e in
+    (ap (λ (out : TaskOutcome). out .cells) same, ap (λ (out : TaskOutcome). out .task) same)
 
 -- ---- Start
 

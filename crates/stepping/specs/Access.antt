@@ -1,4 +1,4 @@
--- The access of a step, from the table, n and the record, before a cell is looked at, and what it gives back. A call that makes
+-- The access of a step, from the table, n, the task and its record, before a cell is looked at, and what it gives back. A call that makes
 -- none counts as a read of the head.
 use mathlib.Core.List.{List}
 use Prim.Native.Nat.{ℕ}

@@ -60,7 +60,7 @@ pub record Elsewhere (cells : List ℕ) (k : ℕ) (out : TaskOutcome) : Type 0 w
   pub long : length (out .cells) ≡ length cells
   pub rest : (j : ℕ) → j ≢ k → getD (out .cells) j 0 ≡ getD cells j 0
 
--- Record, answer and written word of a step follow from the table, n, the record and what the touched cell holds alone.
+-- Record, answer and written word of a step follow from the table, n, the task, its record and what the touched cell holds alone.
 abbrev pub Local : (file cells others : List ℕ) (n i : ℕ) → Task → Type 0
 Local file cells others n i t =
     length cells ≡ length others → getD cells (touched (accessOf file n i t)) 0 ≡ getD others (touched (accessOf file n i t)) 0
@@ -78,7 +78,7 @@ pub record PutBack (row : List Task) (i : ℕ) (own : Task) (after : List Task) 
   pub named : i < length row → taskAt after i ≡ own
   pub others : (j : ℕ) → j ≢ i → taskAt after j ≡ taskAt row j
 
--- Begin and step on a row are the calls for its task's record alone, with n the row's number of records: one answer, the same cells,
+-- A call on a row is the call for its task's record alone, with n the row's number of records: one answer, for a step the same cells,
 -- and the record put back. No other record is looked at.
 abbrev pub BeginByRecord : List ℕ → List Task → (i o : ℕ) → Type 0
 BeginByRecord file row i o =
@@ -102,6 +102,13 @@ BeginUnchanged file row i o = (c : Refusal) → beginOf file row i o .answer ≡
 abbrev pub StepUnchanged : (file cells : List ℕ) → List Task → ℕ → Type 0
 StepUnchanged file cells row i =
     (c : Refusal) → stepOf file cells row i .answer ≡ step.Refused c → (stepOf file cells row i .cells ≡ cells) × (stepOf file cells row i .row ≡ row)
+
+abbrev pub BeginRecordUnchanged : List ℕ → (n i o : ℕ) → Task → Type 0
+BeginRecordUnchanged file n i o t = (c : Refusal) → beginTask file n i o t .answer ≡ begin.Refused c → beginTask file n i o t .task ≡ t
+
+abbrev pub StepRecordUnchanged : (file cells : List ℕ) (n i : ℕ) → Task → Type 0
+StepRecordUnchanged file cells n i t =
+    (c : Refusal) → stepTask file cells n i t .answer ≡ step.Refused c → (stepTask file cells n i t .cells ≡ cells) × (stepTask file cells n i t .task ≡ t)
 
 -- ---- Start
 
