@@ -15,12 +15,12 @@ use Rattle.table.specs.declared.Checked.{Checked}
 use Rattle.table.specs.declared.Checked.the-variants as table
 use Rattle.table.specs.Check.{checkOf}
 use Rattle.records.specs.declared.record.Task.{Task}
-use Rattle.stepping.specs.declared.call.Answer.{Answer}
-use Rattle.stepping.specs.declared.call.Answer.the-variants as step
-use Rattle.stepping.specs.declared.call.StartAnswer.{StartAnswer}
-use Rattle.stepping.specs.declared.call.StartAnswer.the-variants as start
-use Rattle.stepping.specs.declared.call.BeginAnswer.{BeginAnswer}
-use Rattle.stepping.specs.declared.call.BeginAnswer.the-variants as begin
+use Rattle.stepping.specs.declared.answer.StepAnswer.{StepAnswer}
+use Rattle.stepping.specs.declared.answer.StepAnswer.the-variants as step
+use Rattle.stepping.specs.declared.answer.StartAnswer.{StartAnswer}
+use Rattle.stepping.specs.declared.answer.StartAnswer.the-variants as start
+use Rattle.stepping.specs.declared.answer.BeginAnswer.{BeginAnswer}
+use Rattle.stepping.specs.declared.answer.BeginAnswer.the-variants as begin
 use Rattle.stepping.specs.Call.{withRow, StartOutcome, withCells, admitStartOf, startOf, BeginOutcome, beginOf, StepOutcome, stepOf}
 use Rattle.stepping.proofs.Refused.{refused-start, refused-begin-row, refused-step-row}
 use Rattle.bench_row.specs.First.{firstCount, startFirst, beginFirst, stepFirst}
@@ -66,7 +66,7 @@ unfolding beginFirst
 begin-first file xs n m t o ys′ a row b em e er eb =
     rw (er, eb, sym em) (ap (λ (s : BeginOutcome). record { row = s .row ++ drop m xs; answer = s .answer }) e)
 
-pub step-first : (file cs : List ℕ) (xs : List Task) (n m t : ℕ) (cs′ : List ℕ) (ys′ : List Task) (a : Answer) (row : List Task) (b : Answer)
+pub step-first : (file cs : List ℕ) (xs : List Task) (n m t : ℕ) (cs′ : List ℕ) (ys′ : List Task) (a : StepAnswer) (row : List Task) (b : StepAnswer)
     → m ≡ firstCount n → StepSaid file cs (take m xs) t cs′ ys′ a → row ≡ ys′ ++ drop m xs → b ≡ a
     → _≡_ {A = StepOutcome} (record { cells = cs′; row = row; answer = b }) (stepFirst file cs xs n t)
 unfolding stepFirst

@@ -1,8 +1,8 @@
 // The calls for a holder of nine records by value: the first of them are lent as a row.
 use records::record::Task;
-use stepping::call::Answer;
-use stepping::call::BeginAnswer;
-use stepping::call::StartAnswer;
+use stepping::answer::BeginAnswer;
+use stepping::answer::StartAnswer;
+use stepping::answer::StepAnswer;
 ghost use mathlib.Core.Path.{_≡_};
 ghost use Rattle.bench_row.specs.First.{firstCount, startFirst, beginFirst, stepFirst};
 
@@ -24,7 +24,7 @@ pub struct BeginFirst {
 // The records and the answer after a step.
 pub struct StepFirst {
     pub row: [Task; 9],
-    pub answer: Answer,
+    pub answer: StepAnswer,
 }
 
 // How many records are lent for a number of tasks.
@@ -49,7 +49,7 @@ fn after_begin(row: [Task; 9], answer: BeginAnswer) -> BeginFirst
 }
 
 // The records and the answer of a step, together.
-fn after_step(row: [Task; 9], answer: Answer) -> StepFirst
+fn after_step(row: [Task; 9], answer: StepAnswer) -> StepFirst
     ensures { λ r. ⌜ (r .row ≡ row) × (r .answer ≡ answer) ⌝ }
 {
     StepFirst { row, answer }

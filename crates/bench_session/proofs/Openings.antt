@@ -15,7 +15,7 @@ use Rattle.machine.specs.Demand.{StepAccepted}
 use Rattle.machine.proofs.Calls.{Serving, moves, step-task, step-idle, serving}
 use Rattle.machine.proofs.Pending.{pendingOf, pending-is}
 use Rattle.records.specs.declared.record.Task.{Task}
-use Rattle.stepping.specs.declared.call.StartAnswer.the-variants as start
+use Rattle.stepping.specs.declared.answer.StartAnswer.the-variants as start
 use Rattle.stepping.specs.Call.{startOf}
 use Rattle.stepping.specs.Opening.{Opening, objectIn}
 use Rattle.stepping.specs.Runs.{Store, serveOf, runOf, historyOf}

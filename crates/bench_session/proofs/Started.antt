@@ -9,8 +9,8 @@ use lib.ListN.{length, take}
 use lib.Seq.{length-front, length-take-le}
 use Rattle.table.specs.File.{Bytes, shapeOf}
 use Rattle.records.specs.declared.record.Task.{Task}
-use Rattle.stepping.specs.declared.call.StartAnswer.{StartAnswer}
-use Rattle.stepping.specs.declared.call.StartAnswer.the-variants as start
+use Rattle.stepping.specs.declared.answer.StartAnswer.{StartAnswer}
+use Rattle.stepping.specs.declared.answer.StartAnswer.the-variants as start
 use Rattle.stepping.specs.Call.{startOf}
 use Rattle.stepping.specs.Opening.{Opening, startStore}
 use Rattle.stepping.proofs.Theorem.{start-opens}

@@ -12,8 +12,8 @@ use Rattle.machine.specs.Calls.{Call, Step}
 use Rattle.machine.specs.History.{Pends, pending}
 use Rattle.machine.specs.Demand.{StepAccepted}
 use Rattle.records.specs.declared.record.Task.{Task}
-use Rattle.stepping.specs.declared.call.Answer.{Answer}
-use Rattle.stepping.specs.declared.call.Answer.the-variants as step
+use Rattle.stepping.specs.declared.answer.StepAnswer.{StepAnswer}
+use Rattle.stepping.specs.declared.answer.StepAnswer.the-variants as step
 use Rattle.stepping.specs.Call.{withRow, admitOf, stepIn, stepTask, stepOf, stepSaid, taskAt}
 use Rattle.stepping.specs.Opening.{Opening}
 use Rattle.stepping.specs.Runs.{Store, serveOf, runOf, historyOf}
@@ -32,10 +32,10 @@ use Rattle.bench_session.proofs.Situations.{lent, NineHeld, nine-step, 
 use Rattle.bench_session.proofs.Consistency.{consistent-after}
 
 -- What a step on the lent cells and records answers.
-abbrev answerOn : List ℕ → Bench → ℕ → Answer
+abbrev answerOn : List ℕ → Bench → ℕ → StepAnswer
 answerOn file bench t = stepOf file (lent bench .cells) (lent bench .row) t .answer
 
-step-reply : (file : List ℕ) (bench : Bench) (t : ℕ) (a : Answer) → answerOn file bench t ≡ a → stepBench file bench t .reply ≡ stepReply t a
+step-reply : (file : List ℕ) (bench : Bench) (t : ℕ) (a : StepAnswer) → answerOn file bench t ≡ a → stepBench file bench t .reply ≡ stepReply t a
 unfolding stepBench stepHeld stepFirst
 step-reply file bench t a e = ap (stepReply t) e
 
@@ -53,7 +53,7 @@ ended-responds file k t bench r i e =
 
 module _ {file : List ℕ} {n q : ℕ} {s : Store} (o : Opening file n q s) (t x : ℕ) where
   -- An accepted step ends the operation, or answers running, and then more steps end it.
-  accepted-responds : (k : ℕ) (bench : Bench) → StepAccepted (stepSaid (answerOn file bench t)) → (a : Answer) → answerOn file bench t ≡ a
+  accepted-responds : (k : ℕ) (bench : Bench) → StepAccepted (stepSaid (answerOn file bench t)) → (a : StepAnswer) → answerOn file bench t ≡ a
       → (answerOn file bench t ≡ step.Running → Responds file k t (stepBench file bench t)) → Responds file k t (stepBench file bench t)
   accepted-responds k bench h step.Running e more = more e
   accepted-responds k bench h (step.Ended r i) e more = ended-responds file k t bench r i e
@@ -94,10 +94,10 @@ finishes file bytes input t = at (answerOn file bench t) refl
     bench : Bench
     bench = benchAfter file input
 
-    ends : (a : Answer) → answerOn file bench t ≡ a → EndsBy t (stepReply t a) (finishBench file bench t .reply) → EndsBy t (stepBench file bench t .reply) (finishBench file bench t .reply)
+    ends : (a : StepAnswer) → answerOn file bench t ≡ a → EndsBy t (stepReply t a) (finishBench file bench t .reply) → EndsBy t (stepBench file bench t .reply) (finishBench file bench t .reply)
     ends a e h = subst (λ (first : Reply). EndsBy t first (finishBench file bench t .reply)) (sym (step-reply file bench t a e)) h
 
-    last : (a : Answer) → answerOn file bench t ≡ a → runsOn (stepReply t a) ≡ false → finishBench file bench t .reply ≡ stepReply t a
+    last : (a : StepAnswer) → answerOn file bench t ≡ a → runsOn (stepReply t a) ≡ false → finishBench file bench t .reply ≡ stepReply t a
     last a e h = let told = step-reply file bench t a e in ap (λ (z : Handled). z .reply) (finish-last mostTurns file t (stepBench file bench t) (ap runsOn told ∙ h)) ∙ told
 
     during-responds : {q : ℕ} {s : Store} → Opening file (bench .tasks) q s → (xs : List Call) → NineHeld bench → runOf file xs s ≡ lent bench → answerOn file bench t ≡ step.Running → Responds file mostTurns t (stepBench file bench t)
@@ -112,7 +112,7 @@ finishes file bytes input t = at (answerOn file bench t) refl
     responds nine (before z) e = absurd (no-tasks file (lent bench .cells) t (subst (λ (row : List Task). stepOf file (lent bench .cells) row t .answer ≡ step.Running) (no-records bench z) e))
     responds nine (during o xs same) e = during-responds o xs nine same e
 
-    at : (a : Answer) → answerOn file bench t ≡ a → EndsBy t (stepBench file bench t .reply) (finishBench file bench t .reply)
+    at : (a : StepAnswer) → answerOn file bench t ≡ a → EndsBy t (stepBench file bench t .reply) (finishBench file bench t .reply)
     at step.Running e = ends step.Running e (let c = consistent-after file bytes input in responds (c .nine) (c .situation) e)
     at (step.Ended r i) e = ends (step.Ended r i) e (last (step.Ended r i) e refl)
     at (step.Refused c) e = ends (step.Refused c) e (last (step.Refused c) e refl)

@@ -10,12 +10,12 @@ use Rattle.io.specs.Counts.{Counts}
 use Rattle.refusal.specs.declared.Refusal.the-variants as cause
 use Rattle.table.specs.declared.Shape.{Shape}
 use Rattle.table.specs.File.{shapeOf}
-use Rattle.stepping.specs.declared.call.Answer.{Answer}
-use Rattle.stepping.specs.declared.call.Answer.the-variants as step
-use Rattle.stepping.specs.declared.call.StartAnswer.{StartAnswer}
-use Rattle.stepping.specs.declared.call.StartAnswer.the-variants as start
-use Rattle.stepping.specs.declared.call.BeginAnswer.{BeginAnswer}
-use Rattle.stepping.specs.declared.call.BeginAnswer.the-variants as begin
+use Rattle.stepping.specs.declared.answer.StepAnswer.{StepAnswer}
+use Rattle.stepping.specs.declared.answer.StepAnswer.the-variants as step
+use Rattle.stepping.specs.declared.answer.StartAnswer.{StartAnswer}
+use Rattle.stepping.specs.declared.answer.StartAnswer.the-variants as start
+use Rattle.stepping.specs.declared.answer.BeginAnswer.{BeginAnswer}
+use Rattle.stepping.specs.declared.answer.BeginAnswer.the-variants as begin
 use Rattle.records.specs.declared.record.Task.{Task}
 use Rattle.stepping.specs.Call as call
 use Rattle.stepping.specs.Call.{StartOutcome, BeginOutcome}
@@ -85,7 +85,7 @@ beginBench file bench t o = beginAfter bench (beginFirst file (bench .row) (benc
 -- ---- `s t`: a step that answers running prints nothing
 
 -- A step that ends its operation prints the response; a refused one prints its number.
-abbrev pub stepReply : ℕ → Answer → Reply
+abbrev pub stepReply : ℕ → StepAnswer → Reply
 stepReply t step.Running = reply.Silent
 stepReply t (step.Ended r k) = reply.Ended t r
 stepReply t (step.Refused c) = reply.Refused c

@@ -6,9 +6,9 @@ use bench_lines::reply::Text;
 use records::record;
 use records::record::Task;
 use refusal::Refusal;
-use stepping::call::Answer;
-use stepping::call::BeginAnswer;
-use stepping::call::StartAnswer;
+use stepping::answer::BeginAnswer;
+use stepping::answer::StartAnswer;
+use stepping::answer::StepAnswer;
 ghost use mathlib.Core.Path.{_≡_};
 ghost use Prim.Native.Nat.{_≤_};
 ghost use lib.ListN.{take};
@@ -44,7 +44,7 @@ pub struct Handled {
 // What is left after a step, and what it answered.
 pub struct Stepped {
     pub bench: Bench,
-    pub answer: Answer,
+    pub answer: StepAnswer,
 }
 
 // What is left after a line, and what is printed.
@@ -174,13 +174,13 @@ fn step_held(file: &[u8], cells: [u64; 9], row: [Task; 9], tasks: usize, task: u
 }
 
 // A step that answers running prints nothing.
-fn step_reply(task: u16, answer: Answer) -> Reply
+fn step_reply(task: u16, answer: StepAnswer) -> Reply
     ensures { λ r. ⌜ r ≡ stepReply task answer ⌝ }
 {
     match answer {
-        Answer::Running => Reply::Silent,
-        Answer::Ended { response, steps: _ } => Reply::Ended { task, response },
-        Answer::Refused(cause) => Reply::Refused(cause),
+        StepAnswer::Running => Reply::Silent,
+        StepAnswer::Ended { response, steps: _ } => Reply::Ended { task, response },
+        StepAnswer::Refused(cause) => Reply::Refused(cause),
     }
 }
 

@@ -5,10 +5,10 @@ use Prim.Native.Nat.{ℕ, _≤_}
 use lib.ListN.{length, set, List·getD-eq-default}
 use lib.Seq.{set-out}
 use Rattle.records.specs.declared.record.Task.{Task}
-use Rattle.stepping.specs.declared.call.Answer.{Answer}
-use Rattle.stepping.specs.declared.call.BeginAnswer.{BeginAnswer}
-use Rattle.stepping.specs.declared.call.Begin.{Begin}
-use Rattle.stepping.specs.declared.call.Step.{Step}
+use Rattle.stepping.specs.declared.answer.StepAnswer.{StepAnswer}
+use Rattle.stepping.specs.declared.answer.BeginAnswer.{BeginAnswer}
+use Rattle.stepping.specs.declared.answer.Begin.{Begin}
+use Rattle.stepping.specs.declared.answer.Step.{Step}
 use Rattle.records.specs.Record.{idleTask}
 use Rattle.stepping.specs.Call.{taskAt, beginTask, BeginOutcome, beginOf, stepTask, StepOutcome, stepOf}
 use Rattle.stepping.specs.Step.{TaskOutcome}
@@ -50,24 +50,24 @@ begin-past file ys t o a past e =
 -- ---- Step
 
 -- The cells, the row and the answer at the exit of a step.
-abbrev pub StepSaid : (file cs : List ℕ) → List Task → ℕ → List ℕ → List Task → Answer → Type 0
+abbrev pub StepSaid : (file cs : List ℕ) → List Task → ℕ → List ℕ → List Task → StepAnswer → Type 0
 StepSaid file cs ys t cs′ ys′ a = _≡_ {A = StepOutcome} (record { cells = cs′; row = ys′; answer = a }) (stepOf file cs ys t)
 
 -- The cells, the record and the answer at the exit of a step for one task.
-abbrev pub StepTaskSaid : (file cs : List ℕ) (n t : ℕ) → Task → List ℕ → Task → Answer → Type 0
+abbrev pub StepTaskSaid : (file cs : List ℕ) (n t : ℕ) → Task → List ℕ → Task → StepAnswer → Type 0
 StepTaskSaid file cs n t own cs′ own′ a = _≡_ {A = TaskOutcome} (record { cells = cs′; task = own′; answer = a }) (stepTask file cs n t own)
 
-pub step-record : (file cs : List ℕ) (n t : ℕ) (own : Task) (r : Step) (cs′ : List ℕ) (a : Answer)
+pub step-record : (file cs : List ℕ) (n t : ℕ) (own : Task) (r : Step) (cs′ : List ℕ) (a : StepAnswer)
     → StepTaskSaid file cs n t own cs′ (r .task) (r .answer) → a ≡ r .answer → StepTaskSaid file cs n t own cs′ (r .task) a
-step-record file cs n t own r cs′ a e ea = ap (λ (b : Answer). record { cells = cs′; task = r .task; answer = b }) ea ∙ e
+step-record file cs n t own r cs′ a e ea = ap (λ (b : StepAnswer). record { cells = cs′; task = r .task; answer = b }) ea ∙ e
 
-pub step-inside : (file cs : List ℕ) (ys : List Task) (t : ℕ) (cs′ : List ℕ) (own′ : Task) (a : Answer)
+pub step-inside : (file cs : List ℕ) (ys : List Task) (t : ℕ) (cs′ : List ℕ) (own′ : Task) (a : StepAnswer)
     → StepTaskSaid file cs (length ys) t (taskAt ys t) cs′ own′ a → StepSaid file cs ys t cs′ (set ys t own′) a
 unfolding stepOf
 step-inside file cs ys t cs′ own′ a e = ap (λ (s : TaskOutcome). record { cells = s .cells; row = set ys t (s .task); answer = s .answer }) e
 
 -- The cells and the answer of a step for an idle record.
-abbrev pub IdleStepSaid : (file cs : List ℕ) (n t : ℕ) → List ℕ → Answer → Type 0
+abbrev pub IdleStepSaid : (file cs : List ℕ) (n t : ℕ) → List ℕ → StepAnswer → Type 0
 IdleStepSaid file cs n t cs′ a = (cs′ ≡ stepTask file cs n t (idleTask 0) .cells) × (a ≡ stepTask file cs n t (idleTask 0) .answer)
 
 -- They are those for a record that is idle.
@@ -76,9 +76,9 @@ step-idle file cs n t own r cs′ e i =
     let there = e ∙ ap (λ (w : Task). stepTask file cs n t w) i in
     (ap (λ (s : TaskOutcome). s .cells) there, ap (λ (s : TaskOutcome). s .answer) there)
 
-pub step-past : (file cs : List ℕ) (ys : List Task) (t : ℕ) (cs′ : List ℕ) (a : Answer)
+pub step-past : (file cs : List ℕ) (ys : List Task) (t : ℕ) (cs′ : List ℕ) (a : StepAnswer)
     → length ys ≤ t → IdleStepSaid file cs (length ys) t cs′ a → StepSaid file cs ys t cs′ ys a
 unfolding stepOf
 step-past file cs ys t cs′ a past e =
     rw (set-out ys t (stepTask file cs (length ys) t (taskAt ys t) .task) past, past-idle ys t past)
-    (ap (λ (l : List ℕ). record { cells = l; row = ys; answer = a }) (e .0) ∙ ap (λ (b : Answer). record { cells = stepTask file cs (length ys) t (idleTask 0) .cells; row = ys; answer = b }) (e .1))
+    (ap (λ (l : List ℕ). record { cells = l; row = ys; answer = a }) (e .0) ∙ ap (λ (b : StepAnswer). record { cells = stepTask file cs (length ys) t (idleTask 0) .cells; row = ys; answer = b }) (e .1))

@@ -14,9 +14,9 @@ use Rattle.table.specs.declared.Checked.{Checked}
 use Rattle.table.specs.Check.{checkOf}
 use Rattle.stepping.specs.declared.call.Admitted.{Admitted}
 use Rattle.stepping.specs.declared.call.Admitted.the-variants as admitted
-use Rattle.stepping.specs.declared.call.Start.{Start}
-use Rattle.stepping.specs.declared.call.StartAnswer.{StartAnswer}
-use Rattle.stepping.specs.declared.call.StartAnswer.the-variants as start
+use Rattle.stepping.specs.declared.answer.Start.{Start}
+use Rattle.stepping.specs.declared.answer.StartAnswer.{StartAnswer}
+use Rattle.stepping.specs.declared.answer.StartAnswer.the-variants as start
 use Rattle.records.specs.declared.record.Task.{Task}
 use Rattle.records.specs.Record.{idleTask}
 use Rattle.stepping.specs.Call.{idleRow, StartOutcome, withRow, filled, startOf, withCells, admitStartOf}

@@ -24,14 +24,14 @@ use denote.Triple.Statement.{Contract}
 use denote.Triple.Clauses.{ensured, lasts}
 use Rattle.records.specs.declared.record.Task.{Task}
 use Rattle.records.proofs.record.Task as T
-use Rattle.stepping.specs.declared.call.BeginAnswer.{BeginAnswer}
-use Rattle.stepping.specs.declared.call.Answer.{Answer}
-use Rattle.stepping.specs.declared.call.Begin.{Begin}
-use Rattle.stepping.proofs.call.Begin as BeginRow
-use Rattle.stepping.proofs.call.Begin.Laws as BeginLaws
-use Rattle.stepping.specs.declared.call.Step.{Step}
-use Rattle.stepping.proofs.call.Step as StepRow
-use Rattle.stepping.proofs.call.Step.Laws as StepLaws
+use Rattle.stepping.specs.declared.answer.BeginAnswer.{BeginAnswer}
+use Rattle.stepping.specs.declared.answer.StepAnswer.{StepAnswer}
+use Rattle.stepping.specs.declared.answer.Begin.{Begin}
+use Rattle.stepping.proofs.answer.Begin as BeginRow
+use Rattle.stepping.proofs.answer.Begin.Laws as BeginLaws
+use Rattle.stepping.specs.declared.answer.Step.{Step}
+use Rattle.stepping.proofs.answer.Step as StepRow
+use Rattle.stepping.proofs.answer.Step.Laws as StepLaws
 use Rattle.drive.proofs.Values.{mach, slice}
 use Rattle.stepping.proofs.call.begin_task as begin-task
 use Rattle.stepping.proofs.call.step_task as step-task
@@ -105,7 +105,7 @@ module _ {M : Type 1} (𝓤 : URA M) (H : Heap 𝓤) (A : Atoms 𝓤) (at-mem : 
   StepAnswered = tripleOf 𝓤 H A step-answer.signature (step-answer.spec 𝓤 H A at-mem run)
 
   -- What the answer is.
-  pub step-answered : (r : Step) (a : Answer) → ent 𝓤 (ensured 𝓤 H A step-answer.ended (step-answer.clauses 𝓤 H A at-mem run) tt (r, tt) tt a) (fact 𝓤 (a ≡ r .answer))
+  pub step-answered : (r : Step) (a : StepAnswer) → ent 𝓤 (ensured 𝓤 H A step-answer.ended (step-answer.clauses 𝓤 H A at-mem run) tt (r, tt) tt a) (fact 𝓤 (a ≡ r .answer))
   step-answered r a = exE 𝓤 _ (λ ws. snd∗ 𝓤 (sem 𝓤 H A (lasts step-answer.ended tt (r, tt) ws)) (fact 𝓤 (a ≡ r .answer)))
 
 module _ {M : Type 1} (𝓤 : URA M) (H : Heap 𝓤) (A : Atoms 𝓤) (W : Given 𝓤 H A) (at-mem : Memory → SProp 𝓤) (run : Routine → Fun 𝓤) where

@@ -4,9 +4,9 @@ use mathlib.Core.List.{List}
 use Prim.Native.Nat.{ℕ}
 use lib.ListN.{length}
 use Rattle.cells.specs.Image.{imageIn}
-use Rattle.stepping.specs.declared.call.Start.{Start}
-use Rattle.stepping.specs.declared.call.StartAnswer.{StartAnswer}
-use Rattle.stepping.specs.declared.call.StartAnswer.the-variants as start
+use Rattle.stepping.specs.declared.answer.Start.{Start}
+use Rattle.stepping.specs.declared.answer.StartAnswer.{StartAnswer}
+use Rattle.stepping.specs.declared.answer.StartAnswer.the-variants as start
 
 -- A start that is granted fills the cells with the image of the start state; another leaves them as they were.
 abbrev pub startedCells : Start → List ℕ → List ℕ

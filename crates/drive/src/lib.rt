@@ -1,10 +1,11 @@
 // The calls on a lent row of task records: start fills it, begin and step take one record out, lend it and put it back.
 use records::record;
 use records::record::Task;
+use stepping::answer;
+use stepping::answer::BeginAnswer;
+use stepping::answer::StartAnswer;
+use stepping::answer::StepAnswer;
 use stepping::call;
-use stepping::call::Answer;
-use stepping::call::BeginAnswer;
-use stepping::call::StartAnswer;
 ghost use mathlib.Core.Path.{_≡_};
 ghost use mathlib.Core.List.{_++_};
 ghost use Prim.Native.Nat.{_<_, _≤_};
@@ -65,14 +66,14 @@ pub fn start(file: &[u8], cells: &mut [u64], row: &mut [Task]) -> StartAnswer
 }
 
 // The answer of a begin.
-fn begin_answer(begun: call::Begin) -> BeginAnswer
+fn begin_answer(begun: answer::Begin) -> BeginAnswer
     ensures { λ r. ⌜ r ≡ begun .answer ⌝ }
 {
     begun.answer
 }
 
 // The answer of a step.
-fn step_answer(stepped: call::Step) -> Answer
+fn step_answer(stepped: answer::Step) -> StepAnswer
     ensures { λ r. ⌜ r ≡ stepped .answer ⌝ }
 {
     stepped.answer
@@ -100,7 +101,7 @@ pub fn step_record(
     tasks: usize,
     task: usize,
     own: &mut Task,
-) -> Answer
+) -> StepAnswer
     ensures { λ r. ⌜ record { cells = now (cells .exit); task = now (own .exit); answer = r } ≡ stepTask (now (file .entry)) (now (cells .entry)) tasks task (now (own .entry)) ⌝ }
 {
     let stepped = call::step_task(file, cells, tasks, task, *own);
@@ -140,7 +141,7 @@ pub fn begin(file: &[u8], row: &mut [Task], task: usize, operation: usize) -> Be
 }
 
 // Makes one step for the task at a place of the row: its record is taken out, lent and put back.
-fn step_in(file: &[u8], cells: &mut [u64], row: &mut [Task], index: usize) -> Answer
+fn step_in(file: &[u8], cells: &mut [u64], row: &mut [Task], index: usize) -> StepAnswer
     requires { ⌜ index < length (now row) ⌝ }
     ensures { λ r. ⌜ record { cells = now (cells .exit); row = now (row .exit); answer = r } ≡ stepOf (now (file .entry)) (now (cells .entry)) (now (row .entry)) index ⌝ }
 {
@@ -152,7 +153,7 @@ fn step_in(file: &[u8], cells: &mut [u64], row: &mut [Task], index: usize) -> An
 }
 
 // What a step answers for a task that has no record in the row; the cells stay as they were.
-fn step_past(file: &[u8], cells: &mut [u64], tasks: usize, task: usize) -> Answer
+fn step_past(file: &[u8], cells: &mut [u64], tasks: usize, task: usize) -> StepAnswer
     ensures { λ r. ⌜ (now (cells .exit) ≡ stepTask (now (file .entry)) (now (cells .entry)) tasks task (idleTask 0) .cells) × (r ≡ stepTask (now (file .entry)) (now (cells .entry)) tasks task (idleTask 0) .answer) ⌝ }
 {
     let past = call::step_task(file, cells, tasks, task, record::idle_task(0));
@@ -160,7 +161,7 @@ fn step_past(file: &[u8], cells: &mut [u64], tasks: usize, task: usize) -> Answe
 }
 
 // Makes one step for a task.
-pub fn step(file: &[u8], cells: &mut [u64], row: &mut [Task], task: usize) -> Answer
+pub fn step(file: &[u8], cells: &mut [u64], row: &mut [Task], task: usize) -> StepAnswer
     ensures { λ r. ⌜ record { cells = now (cells .exit); row = now (row .exit); answer = r } ≡ stepOf (now (file .entry)) (now (cells .entry)) (now (row .entry)) task ⌝ }
 {
     let tasks = row.len();

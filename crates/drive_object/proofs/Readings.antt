@@ -6,7 +6,7 @@ use Prim.Native.Nat.{ℕ, _/_, _%_, _<_, _≤_}
 use native.Mathlib.Omega.{arith}
 use Rattle.refusal.specs.Number.{numberOf}
 use Rattle.refusal.specs.declared.Refusal.{Refusal}
-use Rattle.refusal.specs.declared.Refusal.the-variants.{File, Dimensions, Length, Entry, Row, Cells, Task, Operation, Pending, Idle, Record, Cell, Line}
+use Rattle.refusal.specs.declared.Refusal.the-variants.{File, Dimensions, Length, NextState, Row, Cells, Task, Operation, Pending, Idle, Record, Cell, Line}
 use Rattle.cells.specs.Ceiling.{ceilingSaid}
 use Rattle.cells.specs.declared.ceiling.Ceiling.{Ceiling}
 use Rattle.cells.specs.declared.ceiling.Ceiling.the-variants as ceiling
@@ -18,8 +18,8 @@ use Rattle.stepping.specs.Call.{startSaid}
 use Rattle.stepping.specs.Runs.{Store}
 use Rattle.stepping.specs.Opening.{Opening, shown}
 use Rattle.stepping.proofs.Theorem.{refusals-known}
-use Rattle.stepping.specs.declared.call.StartAnswer.{StartAnswer}
-use Rattle.stepping.specs.declared.call.StartAnswer.the-variants as start
+use Rattle.stepping.specs.declared.answer.StartAnswer.{StartAnswer}
+use Rattle.stepping.specs.declared.answer.StartAnswer.the-variants as start
 use Rattle.drive_object.specs.Word.{wordOf, refusalIn, endedIn, lowIn, highIn, valueAt, refusedWord, checkWord, startWord, answerWord, ceilingWord}
 
 -- The four parts of a word, each as wide as its bytes.
@@ -32,7 +32,7 @@ number-fits : (c : Refusal) → numberOf c < 256
 number-fits File = omega arith
 number-fits Dimensions = omega arith
 number-fits Length = omega arith
-number-fits Entry = omega arith
+number-fits NextState = omega arith
 number-fits Row = omega arith
 number-fits Cells = omega arith
 number-fits Task = omega arith

@@ -17,12 +17,12 @@ use denote.Enum.Laws as EL
 use denote.Triple.Spec.{tripleOf}
 use denote.Triple.Statement.{Contract}
 use denote.Triple.Clauses.{ensured, lasts}
-use Rattle.stepping.specs.declared.call.BeginAnswer.{BeginAnswer}
-use Rattle.stepping.proofs.call.BeginAnswer as BeginRow
-use Rattle.stepping.proofs.call.BeginAnswer.Laws as BeginLaws
-use Rattle.stepping.specs.declared.call.Answer.{Answer}
-use Rattle.stepping.proofs.call.Answer as StepRow
-use Rattle.stepping.proofs.call.Answer.Laws as StepLaws
+use Rattle.stepping.specs.declared.answer.BeginAnswer.{BeginAnswer}
+use Rattle.stepping.proofs.answer.BeginAnswer as BeginRow
+use Rattle.stepping.proofs.answer.BeginAnswer.Laws as BeginLaws
+use Rattle.stepping.specs.declared.answer.StepAnswer.{StepAnswer}
+use Rattle.stepping.proofs.answer.StepAnswer as StepRow
+use Rattle.stepping.proofs.answer.StepAnswer.Laws as StepLaws
 use Rattle.drive_object.specs.Word.{beginWord, stepWord}
 use Rattle.drive_object.proofs.begin_word as begin-word
 use Rattle.drive_object.proofs.step_word as step-word
@@ -52,13 +52,13 @@ module _ {M : Type 1} (𝓤 : URA M) (H : Heap 𝓤) (A : Atoms 𝓤) (at-mem : 
   StepWordCall = tripleOf 𝓤 H A step-word.signature (step-word.spec 𝓤 H A at-mem run)
 
   -- What the word is.
-  pub step-word-heard : (a : Answer) (r : ℕ) → ent 𝓤 (ensured 𝓤 H A step-word.ended (step-word.clauses 𝓤 H A at-mem run) tt (a, tt) tt r) (fact 𝓤 (r ≡ stepWord a))
+  pub step-word-heard : (a : StepAnswer) (r : ℕ) → ent 𝓤 (ensured 𝓤 H A step-word.ended (step-word.clauses 𝓤 H A at-mem run) tt (a, tt) tt r) (fact 𝓤 (r ≡ stepWord a))
   step-word-heard a r = exE 𝓤 _ (λ ws. snd∗ 𝓤 (sem 𝓤 H A (lasts step-word.ended tt (a, tt) ws)) (fact 𝓤 (r ≡ stepWord a)))
 
   -- An answer is what the call asks for.
-  abbrev pub to-step-word : Answer → Val → StepWordCall .Ghost
+  abbrev pub to-step-word : StepAnswer → Val → StepWordCall .Ghost
   to-step-word a v = ((tt, tt, tt, (a, tt), (v ∷ [], tt)), tt)
 
-  pub goes-step-word : Given 𝓤 H A → (a : Answer) (v : Val) → Is StepRow.the-row a (v ∷ []) → ent 𝓤 (emp 𝓤) (StepWordCall .pre (to-step-word a v))
+  pub goes-step-word : Given 𝓤 H A → (a : StepAnswer) (v : Val) → Is StepRow.the-row a (v ∷ []) → ent 𝓤 (emp 𝓤) (StepWordCall .pre (to-step-word a v))
   goes-step-word W a v is =
       qed W [] ∵ nothing ! $ owned ! StepRow.the-row (Is StepRow.the-row) (EL.makes StepRow.the-type StepLaws.the-plain 𝓤 H A) a (v ∷ []) is $ fjoin ! $ nothing ! $ join ! $ frame ! $ done !

@@ -8,9 +8,9 @@ use Rattle.cells.specs.declared.ceiling.Ceiling.{Ceiling}
 use Rattle.table.specs.Check.{checkSaid}
 use Rattle.table.specs.declared.Checked.{Checked}
 use Rattle.machine.specs.Calls as paper
-use Rattle.stepping.specs.declared.call.Answer.{Answer}
-use Rattle.stepping.specs.declared.call.StartAnswer.{StartAnswer}
-use Rattle.stepping.specs.declared.call.BeginAnswer.{BeginAnswer}
+use Rattle.stepping.specs.declared.answer.StepAnswer.{StepAnswer}
+use Rattle.stepping.specs.declared.answer.StartAnswer.{StartAnswer}
+use Rattle.stepping.specs.declared.answer.BeginAnswer.{BeginAnswer}
 use Rattle.stepping.specs.Call.{startSaid, beginSaid, stepSaid}
 
 -- Byte 0 of a word is the number of the refusal, byte 1 says whether the operation has ended, bytes 2 and 3 are the low
@@ -56,7 +56,7 @@ answerWord (paper.Refused number) = wordOf number 0 0 0
 abbrev pub beginWord : BeginAnswer → ℕ
 beginWord a = answerWord (beginSaid a)
 
-abbrev pub stepWord : Answer → ℕ
+abbrev pub stepWord : StepAnswer → ℕ
 stepWord a = answerWord (stepSaid a)
 
 -- A ceiling is the high number.

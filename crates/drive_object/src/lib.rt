@@ -3,9 +3,9 @@ use cells::ceiling;
 use cells::ceiling::Ceiling;
 use records::record::Task;
 use refusal::Refusal;
-use stepping::call::Answer;
-use stepping::call::BeginAnswer;
-use stepping::call::StartAnswer;
+use stepping::answer::BeginAnswer;
+use stepping::answer::StartAnswer;
+use stepping::answer::StepAnswer;
 use table::Checked;
 ghost use mathlib.Core.Path.{_≡_};
 ghost use Prim.Native.Nat.{_+_, _*_};
@@ -68,13 +68,13 @@ fn begin_word(answer: BeginAnswer) -> u64
 }
 
 // The word of what a step answers.
-fn step_word(answer: Answer) -> u64
+fn step_word(answer: StepAnswer) -> u64
     ensures { λ r. ⌜ r ≡ stepWord answer ⌝ }
 {
     match answer {
-        Answer::Running => word(0, 0, 0, 0),
-        Answer::Ended { response, steps } => word(0, 1, response, steps),
-        Answer::Refused(cause) => refused_word(cause),
+        StepAnswer::Running => word(0, 0, 0, 0),
+        StepAnswer::Ended { response, steps } => word(0, 1, response, steps),
+        StepAnswer::Refused(cause) => refused_word(cause),
     }
 }
 

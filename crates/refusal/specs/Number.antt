@@ -2,14 +2,14 @@
 use mathlib.Core.List.{List, []}
 use Prim.Native.Nat.{ℕ}
 use Rattle.refusal.specs.declared.Refusal.{Refusal}
-use Rattle.refusal.specs.declared.Refusal.the-variants.{File, Dimensions, Length, Entry, Row, Cells, Task, Operation, Pending, Idle, Record, Cell, Line}
+use Rattle.refusal.specs.declared.Refusal.the-variants.{File, Dimensions, Length, NextState, Row, Cells, Task, Operation, Pending, Idle, Record, Cell, Line}
 
 -- The numbers follow the order of the document's table.
 abbrev pub numberOf : Refusal → ℕ
 numberOf File = 1
 numberOf Dimensions = 2
 numberOf Length = 3
-numberOf Entry = 4
+numberOf NextState = 4
 numberOf Row = 5
 numberOf Cells = 6
 numberOf Task = 7

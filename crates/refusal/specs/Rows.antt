@@ -2,7 +2,7 @@
 use mathlib.Core.List.{List, [], _∷_}
 use Prim.Native.Nat.{ℕ}
 use Rattle.refusal.specs.declared.Refusal.{Refusal}
-use Rattle.refusal.specs.declared.Refusal.the-variants.{File, Dimensions, Length, Entry, Row, Cells, Task, Operation, Pending, Idle, Record, Cell, Line}
+use Rattle.refusal.specs.declared.Refusal.the-variants.{File, Dimensions, Length, NextState, Row, Cells, Task, Operation, Pending, Idle, Record, Cell, Line}
 
 pub record TableRow : Type 0 where
   pub cause : Refusal
@@ -20,7 +20,7 @@ rows =
     -- Offset over 4,096, or the parts differ from the length.
     ∷ row Length 3
     -- Next state not below s, in the entries tested.
-    ∷ row Entry 4
+    ∷ row NextState 4
     -- Row of 0 or over 8 records.
     ∷ row Row 5
     -- Cells not one more than records.

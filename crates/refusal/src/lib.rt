@@ -10,7 +10,7 @@ pub enum Refusal {
     // The offset is too large, or the parts don't add up to the file's length.
     Length,
     // A tested entry has a next state that isn't one of the table's states.
-    Entry,
+    NextState,
     // The row has no record, or more than eight.
     Row,
     // The cells aren't one more than the records.
@@ -39,7 +39,7 @@ pub fn number(cause: Refusal) -> u8
         Refusal::File => 1,
         Refusal::Dimensions => 2,
         Refusal::Length => 3,
-        Refusal::Entry => 4,
+        Refusal::NextState => 4,
         Refusal::Row => 5,
         Refusal::Cells => 6,
         Refusal::Task => 7,

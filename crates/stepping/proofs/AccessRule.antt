@@ -35,7 +35,7 @@ module _ (file cells : List ℕ) (n i : ℕ) (t : Task) where
   makes-touch shape f a =
       let word = getD cells (touched a) 0 in
       choice (Makes cells a) (cellInForm shape n (touched a) word) _ _
-      (choice (Makes cells a) (usedInRange file shape t word f) _ _ (record { made = λ _. refl }) (refusal a cause.Entry))
+      (choice (Makes cells a) (usedInRange file shape t word f) _ _ (record { made = λ _. refl }) (refusal a cause.NextState))
       (refusal a cause.Cell)
 
   makes-from : (shape : Shape) (read : PhaseRead) → Makes cells (accessFrom file shape i t read) (stepFrom file shape cells n i t read)
@@ -78,7 +78,7 @@ module _ (file cells others : List ℕ) (n i : ℕ) (t : Task) where
   agree-touch shape f a e =
       let k = touched a in
       both-tested (cellInForm shape n k (getD cells k 0)) (cellInForm shape n k (getD others k 0)) cause.Cell _ _
-      (both-tested (usedInRange file shape t (getD cells k 0) f) (usedInRange file shape t (getD others k 0) f) cause.Entry _ _ (rw e (record { agree = λ u v. (refl, refl) })))
+      (both-tested (usedInRange file shape t (getD cells k 0) f) (usedInRange file shape t (getD others k 0) f) cause.NextState _ _ (rw e (record { agree = λ u v. (refl, refl) })))
 
   agree-from : (shape : Shape) (read : PhaseRead) → let a = accessFrom file shape i t read in givenBack cells a ≡ givenBack others a → Agree (stepFrom file shape cells n i t read) (stepFrom file shape others n i t read)
   agree-from shape (record-phase.Refused c) e = first-refused _ c

@@ -9,12 +9,12 @@ use Rattle.machine.specs.Update.{update}
 use Rattle.machine.specs.Calls.{Call, Answer, Event}
 use Rattle.machine.proofs.Update.{update-all, update-same, update-other}
 use Rattle.records.specs.declared.record.Task.{Task}
-use Rattle.stepping.specs.declared.call.Answer as declared
-use Rattle.stepping.specs.declared.call.Answer.the-variants as step
-use Rattle.stepping.specs.declared.call.BeginAnswer.{BeginAnswer}
-use Rattle.stepping.specs.declared.call.BeginAnswer.the-variants as begin
-use Rattle.stepping.specs.declared.call.StartAnswer.{StartAnswer}
-use Rattle.stepping.specs.declared.call.StartAnswer.the-variants as start
+use Rattle.stepping.specs.declared.answer.StepAnswer as declared
+use Rattle.stepping.specs.declared.answer.StepAnswer.the-variants as step
+use Rattle.stepping.specs.declared.answer.BeginAnswer.{BeginAnswer}
+use Rattle.stepping.specs.declared.answer.BeginAnswer.the-variants as begin
+use Rattle.stepping.specs.declared.answer.StartAnswer.{StartAnswer}
+use Rattle.stepping.specs.declared.answer.StartAnswer.the-variants as start
 use Rattle.stepping.specs.Call.{beginSaid, stepSaid, StartOutcome}
 use Rattle.stepping.specs.Runs.{Store, serveOf, runOf, historyOf}
 use Rattle.stepping.specs.Lent as lent
@@ -41,7 +41,7 @@ begin-cause : (a : BeginAnswer) → IsRefused (Says (beginSaid a)) → (c : Refu
 begin-cause begin.Begun r = absurd r
 begin-cause (begin.Refused c) r = (c, refl)
 
-step-cause : (a : declared.Answer) → IsRefused (Says (stepSaid a)) → (c : Refusal) × (a ≡ step.Refused c)
+step-cause : (a : declared.StepAnswer) → IsRefused (Says (stepSaid a)) → (c : Refusal) × (a ≡ step.Refused c)
 step-cause step.Running r = absurd r
 step-cause (step.Ended v k) r = absurd r
 step-cause (step.Refused c) r = (c, refl)

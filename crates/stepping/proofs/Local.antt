@@ -43,7 +43,7 @@ module _ (file cells others : List ℕ) (n i : ℕ) (t : Task) (long : length ce
       (choice (cellInForm shape n k (getD others k 0)) _ _ _ _
       (choice (usedInRange file shape t (getD others k 0) f) _ _ _ _
       (record { answer = refl; task = refl; word = set-alike cells others k (leftOf (getD others k 0) a) long e })
-      (refusals k cause.Entry e))
+      (refusals k cause.NextState e))
       (refusals k cause.Cell e))
 
   alike-from : (shape : Shape) (read : PhaseRead) → let k = touched (accessFrom file shape i t read) in getD cells k 0 ≡ getD others k 0 → Alike k (stepFrom file shape cells n i t read) (stepFrom file shape others n i t read)
@@ -84,7 +84,7 @@ module _ (file cells : List ℕ) (n i : ℕ) (t : Task) where
       either (cellInForm shape n k word) _ _
       (either (usedInRange file shape t word f) _ _
       (record { long = length-set cells k (leftOf word a); rest = λ j h. getD-set-other cells k j (leftOf word a) 0 h })
-      (refusal k cause.Entry))
+      (refusal k cause.NextState))
       (refusal k cause.Cell)
 
   kept-from : (shape : Shape) (read : PhaseRead) → Elsewhere cells (touched (accessFrom file shape i t read)) (stepFrom file shape cells n i t read)

@@ -14,8 +14,8 @@ use Rattle.records.specs.declared.phase.PhaseRead.the-variants.{Known}
 use Rattle.transition.specs.declared.access.Access.{Access}
 use Rattle.transition.specs.declared.access.Found.{Found}
 use Rattle.transition.specs.declared.access.Next.{Next}
-use Rattle.stepping.specs.declared.call.Answer.the-variants as step
-use Rattle.stepping.specs.declared.call.Step.{Step}
+use Rattle.stepping.specs.declared.answer.StepAnswer.the-variants as step
+use Rattle.stepping.specs.declared.answer.Step.{Step}
 use Rattle.transition.specs.Transition.{planOf, usedInRange, nextOf}
 use Rattle.stepping.specs.Step.{touched, foundOf, performOf, cellInForm, advanceOf, answerOf, TaskOutcome}
 use Rattle.stepping.specs.Call.{refuseStep, stepFrom}
@@ -38,7 +38,7 @@ module _ (file : List ℕ) (shape : Shape) (cells : List ℕ) (n i : ℕ) (t : T
     cell-refused e = simp (ne-eqb (t .phase) 0 pending, sym planned, sym place, e)
 
     module _ (formed : cellInForm shape n k (getD cells k 0) ≡ true) where
-      pub entry-refused : usedInRange file shape t (getD cells k 0) f ≡ false → refuseStep cells t cause.Entry ≡ stepFrom file shape cells n i t (Known f)
+      pub entry-refused : usedInRange file shape t (getD cells k 0) f ≡ false → refuseStep cells t cause.NextState ≡ stepFrom file shape cells n i t (Known f)
       entry-refused e = simp (ne-eqb (t .phase) 0 pending, sym planned, sym place, formed, e)
 
       pub accepted : usedInRange file shape t (getD cells k 0) f ≡ true → (g : Found) (x : Next) (after : List ℕ) (r : Step)

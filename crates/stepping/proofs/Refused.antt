@@ -18,12 +18,12 @@ use Rattle.records.specs.declared.phase.PhaseRead.the-variants as record-phase
 use Rattle.transition.specs.declared.access.Access.{Access}
 use Rattle.transition.specs.declared.access.Next.{Next}
 use Rattle.transition.specs.declared.access.Next.the-variants.{Go, Turn, End}
-use Rattle.stepping.specs.declared.call.Answer.the-variants as step
+use Rattle.stepping.specs.declared.answer.StepAnswer.the-variants as step
 use Rattle.stepping.specs.declared.call.Admitted.{Admitted}
 use Rattle.stepping.specs.declared.call.Admitted.the-variants as admitted
-use Rattle.stepping.specs.declared.call.StartAnswer.the-variants as start
-use Rattle.stepping.specs.declared.call.BeginAnswer.the-variants as begin
-use Rattle.stepping.specs.declared.call.Begin.{Begin}
+use Rattle.stepping.specs.declared.answer.StartAnswer.the-variants as start
+use Rattle.stepping.specs.declared.answer.BeginAnswer.the-variants as begin
+use Rattle.stepping.specs.declared.answer.Begin.{Begin}
 use Rattle.records.specs.Record.{idleTask, readRecord}
 use Rattle.transition.specs.Transition.{planOf, usedInRange}
 use Rattle.stepping.specs.Step.{touched, cellInForm, answerOf, TaskOutcome, ledTo}
@@ -73,7 +73,7 @@ module _ (t : Task) where
     begin-kept (admitted.Admits c shape) =
         choice BeginKept (ltb i n) _ _
         (choice BeginKept (ltb o (shape .operations)) _ _
-        (choice BeginKept (operationInRange file shape o) _ _ (begin-from shape (readRecord shape n c t)) (begin-refused cause.Entry))
+        (choice BeginKept (operationInRange file shape o) _ _ (begin-from shape (readRecord shape n c t)) (begin-refused cause.NextState))
         (begin-refused cause.Operation))
         (begin-refused cause.Task)
 
@@ -101,7 +101,7 @@ module _ (file cells : List ℕ) (n i : ℕ) (t : Task) where
       choice StepKept (cellInForm shape n (touched a) (getD cells (touched a) 0)) _ _
       (choice StepKept (usedInRange file shape t (getD cells (touched a) 0) f) _ _
       (record { same = λ reason e. absurd (accepts t (ledTo file shape cells i t f a) reason e) })
-      (step-refused cause.Entry))
+      (step-refused cause.NextState))
       (step-refused cause.Cell)
 
   step-from : (shape : Shape) (read : PhaseRead) → StepKept (stepFrom file shape cells n i t read)

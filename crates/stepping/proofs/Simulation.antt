@@ -26,8 +26,8 @@ use Rattle.machine.specs.Form.{Formed}
 use Rattle.records.specs.declared.record.Task.{Task}
 use Rattle.records.specs.declared.phase.Phase.the-variants as phase
 use Rattle.transition.specs.declared.access.Next.{Next}
-use Rattle.stepping.specs.declared.call.Begin as declared
-use Rattle.stepping.specs.declared.call.BeginAnswer.the-variants as opening
+use Rattle.stepping.specs.declared.answer.Begin as declared
+use Rattle.stepping.specs.declared.answer.BeginAnswer.the-variants as opening
 use Rattle.stepping.specs.declared.call.Admitted.the-variants as admitted
 use Rattle.records.specs.Phase.{phaseNumber}
 use Rattle.records.specs.Record.{idleTask, readRecord}
@@ -145,7 +145,7 @@ module _ (file : List ℕ) (shape : Shape) (table : ObjectTable file shape) (n :
 
     -- The same for a call of begin with operation o.
     module _ (o : ℕ) where
-      begin-task : (t : Task) → beginTask file n i o t ≡ cond (ltb i n) (cond (ltb o (shape .operations)) (cond (operationInRange file shape o) (beginFrom file shape o t (readRecord shape n (ceiling n) t)) (refuseBegin t cause.Entry)) (refuseBegin t cause.Operation)) (refuseBegin t cause.Task)
+      begin-task : (t : Task) → beginTask file n i o t ≡ cond (ltb i n) (cond (ltb o (shape .operations)) (cond (operationInRange file shape o) (beginFrom file shape o t (readRecord shape n (ceiling n) t)) (refuseBegin t cause.NextState)) (refuseBegin t cause.Operation)) (refuseBegin t cause.Task)
       unfolding beginTask
       begin-task t = rw admits
 

@@ -22,7 +22,7 @@ use Rattle.table.proofs.Accepted.{accepted-fitting}
 use Rattle.machine.specs.Memory.{image}
 use Rattle.machine.specs.Run as run
 use Rattle.records.specs.declared.record.Task.{Task}
-use Rattle.stepping.specs.declared.call.StartAnswer.the-variants as answer
+use Rattle.stepping.specs.declared.answer.StartAnswer.the-variants as answer
 use Rattle.stepping.specs.Call.{withRow, idleRow, startOf, withCells, admitStartOf}
 use Rattle.stepping.specs.Statement.{Startable, StartOpens}
 use Rattle.transition.specs.Encoding.{encodeTask}

@@ -14,7 +14,7 @@ use Rattle.machine.proofs.OwnSteps.{next-step}
 use Rattle.machine.proofs.WaitFree.{bound-ceiling}
 use Rattle.records.specs.declared.record.Task.{Task}
 use Rattle.transition.specs.Encoding.{encodeAccess}
-use Rattle.stepping.specs.declared.call.Begin.{Begin}
+use Rattle.stepping.specs.declared.answer.Begin.{Begin}
 use Rattle.stepping.specs.Step.{TaskOutcome}
 use Rattle.stepping.specs.Call.{StartOutcome}
 use Rattle.stepping.specs.Runs.{Store}

@@ -25,16 +25,16 @@ use Rattle.records.specs.declared.phase.PhaseRead.{PhaseRead}
 use Rattle.records.specs.declared.phase.PhaseRead.the-variants as record-phase
 use Rattle.machine.specs.Calls as paper
 use Rattle.transition.specs.declared.access.Access.{Access}
-use Rattle.stepping.specs.declared.call.Answer.{Answer}
-use Rattle.stepping.specs.declared.call.Answer.the-variants as step
+use Rattle.stepping.specs.declared.answer.StepAnswer.{StepAnswer}
+use Rattle.stepping.specs.declared.answer.StepAnswer.the-variants as step
 use Rattle.stepping.specs.declared.call.Admitted.{Admitted}
 use Rattle.stepping.specs.declared.call.Admitted.the-variants as admitted
-use Rattle.stepping.specs.declared.call.Start.{Start}
-use Rattle.stepping.specs.declared.call.StartAnswer.{StartAnswer}
-use Rattle.stepping.specs.declared.call.StartAnswer.the-variants as start
-use Rattle.stepping.specs.declared.call.BeginAnswer.{BeginAnswer}
-use Rattle.stepping.specs.declared.call.BeginAnswer.the-variants as begin
-use Rattle.stepping.specs.declared.call.Begin.{Begin}
+use Rattle.stepping.specs.declared.answer.Start.{Start}
+use Rattle.stepping.specs.declared.answer.StartAnswer.{StartAnswer}
+use Rattle.stepping.specs.declared.answer.StartAnswer.the-variants as start
+use Rattle.stepping.specs.declared.answer.BeginAnswer.{BeginAnswer}
+use Rattle.stepping.specs.declared.answer.BeginAnswer.the-variants as begin
+use Rattle.stepping.specs.declared.answer.Begin.{Begin}
 use Rattle.records.specs.Phase.{phaseNumber}
 use Rattle.records.specs.Record.{idleTask, readRecord}
 use Rattle.transition.specs.Transition.{planOf, usedInRange}
@@ -51,7 +51,7 @@ abbrev pub beginSaid : BeginAnswer → paper.Answer
 beginSaid begin.Begun = paper.Begun
 beginSaid (begin.Refused c) = paper.Refused (numberOf c)
 
-abbrev pub stepSaid : Answer → paper.Answer
+abbrev pub stepSaid : StepAnswer → paper.Answer
 stepSaid step.Running = paper.Running
 stepSaid (step.Ended r k) = paper.Ended r k
 stepSaid (step.Refused c) = paper.Refused (numberOf c)
@@ -136,7 +136,7 @@ beginIn file n i o t (admitted.Refused c) = refuseBegin t c
 beginIn file n i o t (admitted.Admits c shape) =
     cond (ltb i n)
     (cond (ltb o (shape .operations))
-    (cond (operationInRange file shape o) (beginFrom file shape o t (readRecord shape n c t)) (refuseBegin t cause.Entry))
+    (cond (operationInRange file shape o) (beginFrom file shape o t (readRecord shape n c t)) (refuseBegin t cause.NextState))
     (refuseBegin t cause.Operation))
     (refuseBegin t cause.Task)
 
@@ -153,7 +153,7 @@ refuseStep cells t c = record { cells = cells; task = t; answer = step.Refused c
 abbrev pub touch : List ℕ → Shape → List ℕ → (n i : ℕ) → Task → Phase → Access → TaskOutcome
 touch file shape cells n i t f a =
     cond (cellInForm shape n (touched a) (getD cells (touched a) 0))
-    (cond (usedInRange file shape t (getD cells (touched a) 0) f) (served file shape cells n i t f a) (refuseStep cells t cause.Entry))
+    (cond (usedInRange file shape t (getD cells (touched a) 0) f) (served file shape cells n i t f a) (refuseStep cells t cause.NextState))
     (refuseStep cells t cause.Cell)
 
 abbrev pub stepFrom : List ℕ → Shape → List ℕ → (n i : ℕ) → Task → PhaseRead → TaskOutcome
@@ -190,7 +190,7 @@ beginOf file row i o =
 pub record StepOutcome : Type 0 where
   pub cells : List ℕ
   pub row : List Task
-  pub answer : Answer
+  pub answer : StepAnswer
 
 unfoldable pub stepOf : List ℕ → List ℕ → List Task → ℕ → StepOutcome
 stepOf file cells row i =

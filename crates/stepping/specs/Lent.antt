@@ -9,8 +9,8 @@ use Rattle.machine.specs.Update.{update}
 use Rattle.machine.specs.Calls as run
 use Rattle.machine.specs.Calls.{Call, Answer, Event}
 use Rattle.records.specs.declared.record.Task.{Task}
-use Rattle.stepping.specs.declared.call.StartAnswer.{StartAnswer}
-use Rattle.stepping.specs.declared.call.StartAnswer.the-variants as start
+use Rattle.stepping.specs.declared.answer.StartAnswer.{StartAnswer}
+use Rattle.stepping.specs.declared.answer.StartAnswer.the-variants as start
 use Rattle.stepping.specs.Call.{startOf, beginOf, stepOf, beginSaid, stepSaid}
 use Rattle.stepping.specs.Runs.{Store, runOf, historyOf}
 

@@ -19,10 +19,10 @@ use Rattle.machine.specs.Demand.{Demand}
 use Rattle.machine.specs.Ending.{Emptyings}
 use Rattle.records.specs.declared.record.Task.{Task}
 use Rattle.transition.specs.declared.access.Access.the-variants.{Read, Write}
-use Rattle.stepping.specs.declared.call.Answer.{Answer}
-use Rattle.stepping.specs.declared.call.Answer.the-variants as step
-use Rattle.stepping.specs.declared.call.BeginAnswer.the-variants as begin
-use Rattle.stepping.specs.declared.call.StartAnswer.the-variants as start
+use Rattle.stepping.specs.declared.answer.StepAnswer.{StepAnswer}
+use Rattle.stepping.specs.declared.answer.StepAnswer.the-variants as step
+use Rattle.stepping.specs.declared.answer.BeginAnswer.the-variants as begin
+use Rattle.stepping.specs.declared.answer.StartAnswer.the-variants as start
 use Rattle.stepping.specs.Step.{touched, performOf, cellInForm, TaskOutcome}
 use Rattle.stepping.specs.Call.{startOf, beginTask, stepTask, taskAt, beginOf, stepOf}
 use Rattle.stepping.specs.Access.{accessOf, givenBack}
@@ -33,7 +33,7 @@ use Rattle.stepping.specs.Lent.{Memory, Places, storeAt, LentCall, LentS
 -- ---- The access rule, for all arguments
 
 -- A step that is not refused.
-abbrev pub Unrefused : Answer → Type 0
+abbrev pub Unrefused : StepAnswer → Type 0
 Unrefused a = (reason : Refusal) → a ≡ step.Refused reason → ⊥
 
 -- A step that is not refused leaves exactly the cells that its access makes of the old ones.

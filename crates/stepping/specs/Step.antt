@@ -18,8 +18,8 @@ use Rattle.transition.specs.declared.access.Found.the-variants.{Word, Stored, S
 use Rattle.transition.specs.declared.access.Next.{Next}
 use Rattle.transition.specs.declared.access.Next.the-variants.{Go, Turn, End}
 use Rattle.transition.specs.Transition.{nextOf}
-use Rattle.stepping.specs.declared.call.Answer.{Answer}
-use Rattle.stepping.specs.declared.call.Answer.the-variants.{Running, Ended}
+use Rattle.stepping.specs.declared.answer.StepAnswer.{StepAnswer}
+use Rattle.stepping.specs.declared.answer.StepAnswer.the-variants.{Running, Ended}
 
 -- ---- The access
 
@@ -59,7 +59,7 @@ advanceOf n t Turn = record { head = 0; announcement = 0; payload = 0; steps = t
 advanceOf n t (End r) = idleTask (t .priority)
 
 -- What an accepted step answers; the count takes in this step.
-abbrev pub answerOf : Task → Next → Answer
+abbrev pub answerOf : Task → Next → StepAnswer
 answerOf t (Go f v h a) = Running
 answerOf t Turn = Running
 answerOf t (End r) = Ended r (t .steps + 1)
@@ -68,7 +68,7 @@ answerOf t (End r) = Ended r (t .steps + 1)
 pub record TaskOutcome : Type 0 where
   pub cells : List ℕ
   pub task : Task
-  pub answer : Answer
+  pub answer : StepAnswer
 
 -- What a step leads to, by what its access gives back.
 abbrev pub ledTo : List ℕ → Shape → List ℕ → ℕ → Task → Phase → Access → Next

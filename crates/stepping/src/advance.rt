@@ -1,6 +1,6 @@
 // The record and the answer of an accepted step.
-use crate::call::Answer;
-use crate::call::Step;
+use crate::answer::Step;
+use crate::answer::StepAnswer;
 use records::phase;
 use records::phase::Phase;
 use records::record;
@@ -56,7 +56,7 @@ pub(crate) fn advance(tasks: usize, own: Task, next: Next) -> Step
             announcement,
         } => Step {
             task: stepped(own, steps, own.priority, phase, payload, head, announcement),
-            answer: Answer::Running,
+            answer: StepAnswer::Running,
         },
         Next::Turn => Step {
             task: stepped(
@@ -68,11 +68,11 @@ pub(crate) fn advance(tasks: usize, own: Task, next: Next) -> Step
                 0,
                 0,
             ),
-            answer: Answer::Running,
+            answer: StepAnswer::Running,
         },
         Next::End { response } => Step {
             task: record::idle_task(own.priority),
-            answer: Answer::Ended { response, steps },
+            answer: StepAnswer::Ended { response, steps },
         },
     }
 }

@@ -1,5 +1,11 @@
 // The calls for one task, by value: the tests in their order, and what an accepted call does.
 use crate::advance;
+use crate::answer::Begin;
+use crate::answer::BeginAnswer;
+use crate::answer::Start;
+use crate::answer::StartAnswer;
+use crate::answer::Step;
+use crate::answer::StepAnswer;
 use crate::perform;
 use cells::ceiling;
 use cells::ceiling::Ceiling;
@@ -28,42 +34,6 @@ ghost use Rattle.stepping.specs.Call.{withRow, admitOf, notGranted, admi
 pub enum Admitted {
     Admits { ceiling: u32, shape: Shape },
     Refused(Refusal),
-}
-
-pub enum StartAnswer {
-    Started,
-    Refused(Refusal),
-}
-
-// What the tests of start find: whether it is granted, the start state, and the answer.
-pub struct Start {
-    pub granted: bool,
-    pub state: u16,
-    pub answer: StartAnswer,
-}
-
-pub enum BeginAnswer {
-    Begun,
-    Refused(Refusal),
-}
-
-// The record after begin, and the answer.
-pub struct Begin {
-    pub task: Task,
-    pub answer: BeginAnswer,
-}
-
-// What a step answers: running, ended with the response and the own steps since begin, or refused.
-pub enum Answer {
-    Running,
-    Ended { response: u16, steps: u32 },
-    Refused(Refusal),
-}
-
-// The record after a step, and the answer.
-pub struct Step {
-    pub task: Task,
-    pub answer: Answer,
 }
 
 // Cause 5 on the number of records, after what the test of the file answered.
@@ -189,7 +159,7 @@ fn begin_in(
     }
     let chosen = operation as u16;
     if !table::operation_in_range(file, shape, chosen) {
-        return refuse_begin(own, Refusal::Entry);
+        return refuse_begin(own, Refusal::NextState);
     }
     let read = record::read_record(shape, tasks, ceiling, own);
     match read {
@@ -213,11 +183,11 @@ pub fn begin_task(file: &[u8], tasks: usize, task: usize, operation: usize, own:
 
 // A step that is refused leaves the record as it was.
 fn refuse_step(own: Task, cause: Refusal) -> Step
-    ensures { λ r. ⌜ r ≡ record { task = own; answer = Answer.Refused cause } ⌝ }
+    ensures { λ r. ⌜ r ≡ record { task = own; answer = StepAnswer.Refused cause } ⌝ }
 {
     Step {
         task: own,
-        answer: Answer::Refused(cause),
+        answer: StepAnswer::Refused(cause),
     }
 }
 
@@ -247,7 +217,7 @@ fn step_from(
         return refuse_step(own, Refusal::Cell);
     }
     if !entry::used_in_range(file, shape, own, word, phase) {
-        return refuse_step(own, Refusal::Entry);
+        return refuse_step(own, Refusal::NextState);
     }
     let found = perform::perform(cells, access);
     let next = next::next(file, shape, place, first, own, phase, found);

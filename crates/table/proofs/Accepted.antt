@@ -4,7 +4,7 @@ use mathlib.Core.Path.{_≡_, sym, ap, _∙_}
 use mathlib.Core.Bool.{true}
 use mathlib.Core.List.{List}
 use borrow.Author.Tests.{ltb-true, lt-ltb}
-use Rattle.refusal.specs.declared.Refusal.the-variants.{Entry}
+use Rattle.refusal.specs.declared.Refusal.the-variants.{NextState}
 use Rattle.table.specs.declared.Shape.{Shape}
 use Rattle.table.specs.declared.Checked.{Checked}
 use Rattle.table.specs.declared.Checked.the-variants.{Accepted, Refused}
@@ -37,7 +37,7 @@ module _ (file : List ℕ) (shape : Shape) where
 
   parts : (layout : Checked) → withEntries file layout ≡ Accepted shape → (layout ≡ Accepted shape) × (entriesInRange file shape ≡ true)
   parts (Accepted found) e =
-      let t = taken (entriesInRange file found) _ _ _ e (refused Entry shape) in
+      let t = taken (entriesInRange file found) _ _ _ e (refused NextState shape) in
       let i : found ≡ shape = cc (t .1) in
       (t .1, sym (ap (entriesInRange file) i) ∙ t .0)
   parts (Refused cause) e = absurd (refused cause shape e)

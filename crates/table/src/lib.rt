@@ -242,7 +242,7 @@ pub fn check(file: &[u8]) -> Checked
             if entries_in_range(file, shape) {
                 Checked::Accepted(shape)
             } else {
-                Checked::Refused(Refusal::Entry)
+                Checked::Refused(Refusal::NextState)
             }
         }
     }

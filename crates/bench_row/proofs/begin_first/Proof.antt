@@ -51,9 +51,9 @@ use Rattle.drive.proofs.Values.{slice, OwnFile}
 use Rattle.records.specs.declared.record.Task.{Task}
 use Rattle.records.proofs.record.Task as T
 use Rattle.records.proofs.record.Task.Laws as T′
-use Rattle.stepping.specs.declared.call.BeginAnswer.{BeginAnswer}
-use Rattle.stepping.proofs.call.BeginAnswer as N
-use Rattle.stepping.proofs.call.BeginAnswer.Laws as N′
+use Rattle.stepping.specs.declared.answer.BeginAnswer.{BeginAnswer}
+use Rattle.stepping.proofs.answer.BeginAnswer as N
+use Rattle.stepping.proofs.answer.BeginAnswer.Laws as N′
 use Rattle.bench_row.specs.declared.BeginFirst.{BeginFirst}
 use Rattle.bench_row.proofs.BeginFirst as O
 use Rattle.bench_row.proofs.BeginFirst.Laws as O′

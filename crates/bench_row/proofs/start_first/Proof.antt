@@ -51,9 +51,9 @@ use Rattle.drive.proofs.Values.{slice, OwnFile}
 use Rattle.records.specs.declared.record.Task.{Task}
 use Rattle.records.proofs.record.Task as T
 use Rattle.records.proofs.record.Task.Laws as T′
-use Rattle.stepping.specs.declared.call.StartAnswer.{StartAnswer}
-use Rattle.stepping.proofs.call.StartAnswer as N
-use Rattle.stepping.proofs.call.StartAnswer.Laws as N′
+use Rattle.stepping.specs.declared.answer.StartAnswer.{StartAnswer}
+use Rattle.stepping.proofs.answer.StartAnswer as N
+use Rattle.stepping.proofs.answer.StartAnswer.Laws as N′
 use Rattle.bench_row.specs.declared.StartFirst.{StartFirst}
 use Rattle.bench_row.proofs.StartFirst as O
 use Rattle.bench_row.proofs.StartFirst.Laws as O′

@@ -51,9 +51,9 @@ use Rattle.drive.proofs.Values.{slice, OwnFile}
 use Rattle.records.specs.declared.record.Task.{Task}
 use Rattle.records.proofs.record.Task as T
 use Rattle.records.proofs.record.Task.Laws as T′
-use Rattle.stepping.specs.declared.call.Answer.{Answer}
-use Rattle.stepping.proofs.call.Answer as N
-use Rattle.stepping.proofs.call.Answer.Laws as N′
+use Rattle.stepping.specs.declared.answer.StepAnswer.{StepAnswer}
+use Rattle.stepping.proofs.answer.StepAnswer as N
+use Rattle.stepping.proofs.answer.StepAnswer.Laws as N′
 use Rattle.bench_row.specs.declared.StepFirst.{StepFirst}
 use Rattle.bench_row.proofs.StepFirst as O
 use Rattle.bench_row.proofs.StepFirst.Laws as O′
@@ -99,7 +99,7 @@ module _ {M : Type 1} (𝓤 : URA M) (H : Heap 𝓤) (A : Atoms 𝓤) (at-mem : 
   count-said : (n m : ℕ) → ent 𝓤 (ensured 𝓤 H A count.ended (count.clauses 𝓤 H A at-mem run) tt (n, tt) tt m) (fact 𝓤 (m ≡ firstCount n))
   count-said n m = exE 𝓤 _ (λ ws. snd∗ 𝓤 (sem 𝓤 H A (lasts count.ended tt (n, tt) ws)) (fact 𝓤 (m ≡ firstCount n)))
 
-  after-said : (zs : List Task) (a : Answer) (r : StepFirst) → ent 𝓤 (ensured 𝓤 H A after.ended (after.clauses 𝓤 H A at-mem run) tt (zs, (a, tt)) tt r) (fact 𝓤 ((r .row ≡ zs) × (r .answer ≡ a)))
+  after-said : (zs : List Task) (a : StepAnswer) (r : StepFirst) → ent 𝓤 (ensured 𝓤 H A after.ended (after.clauses 𝓤 H A at-mem run) tt (zs, (a, tt)) tt r) (fact 𝓤 ((r .row ≡ zs) × (r .answer ≡ a)))
   after-said zs a r = exE 𝓤 _ (λ ws. snd∗ 𝓤 (sem 𝓤 H A (lasts after.ended tt (zs, (a, tt)) ws)) (fact 𝓤 ((r .row ≡ zs) × (r .answer ≡ a))))
 
 module _ {M : Type 1} (𝓤 : URA M) (H : Heap 𝓤) (A : Atoms 𝓤) (W : Given 𝓤 H A) (at-mem : Memory → SProp 𝓤) (run : Routine → Fun 𝓤) (κ₀ κ₁ : Lft) (q₀ q₁ : Share)
@@ -155,10 +155,10 @@ module _ {M : Type 1} (𝓤 : URA M) (H : Heap 𝓤) (A : Atoms 𝓤) (W : Given
     goes-core : ent 𝓤 (sep 𝓤 (sep 𝓤 (A .lft κ₀ q₀) (sep 𝓤 (A .lft κ₁ q₁) (sep 𝓤 (A .lft (α ∷ []) fullShare) (sem 𝓤 H A ftrue)))) (sem 𝓤 H A Owned)) (Core 𝓤 H A at-mem run .pre to-core)
     goes-core = qed W ((‵ (flft κ₀ q₀) ⊛ ‵ (flft κ₁ q₁) ⊛ ‵ (flft (α ∷ []) fullShare) ⊛ ‵ ftrue) ∷ ‵ Owned ∷ []) ∵ join ! $ frame ! $ done !
 
-  abbrev to-after : List Task → Answer → Val → After 𝓤 H A at-mem run .Ghost
+  abbrev to-after : List Task → StepAnswer → Val → After 𝓤 H A at-mem run .Ghost
   to-after zs a v = ((tt, tt, tt, (zs, (a, tt)), (machs zs ∷ [], (v ∷ [], tt))), tt)
 
-  goes-after : (zs : List Task) (a : Answer) (v : Val) → Nine zs → Is N.the-row a (v ∷ []) → ent 𝓤 (emp 𝓤) (After 𝓤 H A at-mem run .pre (to-after zs a v))
+  goes-after : (zs : List Task) (a : StepAnswer) (v : Val) → Nine zs → Is N.the-row a (v ∷ []) → ent 𝓤 (emp 𝓤) (After 𝓤 H A at-mem run .pre (to-after zs a v))
   goes-after zs a v nine is =
       qed W [] ∵ nothing ! $ owned ! N.the-row (Is N.the-row) (EL.makes N.the-type N′.the-plain 𝓤 H A) a (v ∷ []) is $ fjoin ! $
       owned ! (Array T.the-row 9) (Is (Array T.the-row 9)) (array-makes 𝓤 H A W T.the-row (LL.makes T.the-type T′.the-plain 𝓤 H A) 9) zs (machs zs ∷ []) nine $ fjoin ! $ nothing ! $ join ! $ frame ! $ done !
@@ -198,7 +198,7 @@ module _ {M : Type 1} (𝓤 : URA M) (H : Heap 𝓤) (A : Atoms 𝓤) (W : Given
         fjoin ! $ move ! (33 ∷ 0 ∷ []) $ fjoin ! $ move ! (31 ∷ 0 ∷ []) $ fjoin ! $ nothing ! $ move ! (3 ∷ 0 ∷ []) $ join ! $ move ! (33 ∷ 0 ∷ []) $ join ! $
         move ! (32 ∷ 0 ∷ []) $ join ! $ use2 W (raw (Core 𝓤 H A at-mem run .pre (to-core m l7 α γ))) (goes-core m l7 α γ) $
         calls-at ! fm (Core 𝓤 H A at-mem run) known-c (to-core m l7 α γ) (and-then ! (load ! (from ! (stop !)) (look ! 26 refl)) (and-then ! (load ! (from ! (stop !)) (look ! 9 refl)) (and-then ! (load ! (from ! (stop !)) (look ! 5 refl)) (and-then ! (load ! (from ! (stop !)) (look ! 18 refl)) (no-more !))))) (λ v₁.
-        use1 W (later (some (λ (a : Answer). ((‵ (flft κ₀ q₀) ⊛ ‵ (flft κ₁ q₁) ⊛ ‵ (flft (α ∷ []) fullShare) ⊛ ‵ ftrue) ⊛ ‵ (N.the-row .own a (v₁ ∷ []))) ⊛ raw (ensured 𝓤 H A core.ended (core.clauses 𝓤 H A at-mem run) (κ₀, (κ₁, (α ∷ [], tt))) (args m l7 γ) tt a)))) (id⊢ 𝓤 _) $
+        use1 W (later (some (λ (a : StepAnswer). ((‵ (flft κ₀ q₀) ⊛ ‵ (flft κ₁ q₁) ⊛ ‵ (flft (α ∷ []) fullShare) ⊛ ‵ ftrue) ⊛ ‵ (N.the-row .own a (v₁ ∷ []))) ⊛ raw (ensured 𝓤 H A core.ended (core.clauses 𝓤 H A at-mem run) (κ₀, (κ₁, (α ∷ [], tt))) (args m l7 γ) tt a)))) (id⊢ 𝓤 _) $
         await ! tt $ pick ! (λ a. split ! $ move ! (1 ∷ []) $
         use1 W (some (λ (zs : Unit {0} × (List ℕ × (List Task × (Unit {0} × Unit {0})))). ‵ (lasts core.ended (κ₀, (κ₁, (α ∷ [], tt))) (args m l7 γ) zs) ⊛ raw (fact 𝓤 (StepSaid (file .now) (cells .now) (take m xs) t (zs .1 .0) (zs .1 .1 .0) a)))) (id⊢ 𝓤 _) $
         pick ! (λ zs. split ! $ move ! (1 ∷ []) $ heard ! (StepSaid (file .now) (cells .now) (take m xs) t (zs .1 .0) (zs .1 .1 .0) a) (λ e. fsplit ! $ drop ! $ fsplit ! $

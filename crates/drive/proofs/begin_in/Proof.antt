@@ -49,9 +49,9 @@ use Rattle.drive.proofs.RecordCalls.{Plain, record-at, RecordBody, lend
 use Rattle.records.specs.declared.record.Task.{Task}
 use Rattle.records.proofs.record.Task as T
 use Rattle.records.proofs.record.Task.Laws as T′
-use Rattle.stepping.specs.declared.call.BeginAnswer.{BeginAnswer}
-use Rattle.stepping.proofs.call.BeginAnswer as N
-use Rattle.stepping.proofs.call.BeginAnswer.Laws as N′
+use Rattle.stepping.specs.declared.answer.BeginAnswer.{BeginAnswer}
+use Rattle.stepping.proofs.answer.BeginAnswer as N
+use Rattle.stepping.proofs.answer.BeginAnswer.Laws as N′
 use Rattle.records.specs.Record.{idleTask}
 use Rattle.drive.proofs.Calls.{BeginSaid, BeginTaskSaid, begin-inside}
 use Rattle.drive.proofs.begin_record as core

@@ -47,12 +47,12 @@ use Rattle.drive.proofs.TaskCalls.{BeginCall, BeginAnswered, begin-answ
 use Rattle.records.specs.declared.record.Task.{Task}
 use Rattle.records.proofs.record.Task as T
 use Rattle.records.proofs.record.Task.Laws as T′
-use Rattle.stepping.specs.declared.call.BeginAnswer.{BeginAnswer}
-use Rattle.stepping.proofs.call.BeginAnswer as N
-use Rattle.stepping.proofs.call.BeginAnswer.Laws as N′
-use Rattle.stepping.specs.declared.call.Begin.{Begin}
-use Rattle.stepping.proofs.call.Begin as O
-use Rattle.stepping.proofs.call.Begin.Laws as O′
+use Rattle.stepping.specs.declared.answer.BeginAnswer.{BeginAnswer}
+use Rattle.stepping.proofs.answer.BeginAnswer as N
+use Rattle.stepping.proofs.answer.BeginAnswer.Laws as N′
+use Rattle.stepping.specs.declared.answer.Begin.{Begin}
+use Rattle.stepping.proofs.answer.Begin as O
+use Rattle.stepping.proofs.answer.Begin.Laws as O′
 use Rattle.stepping.specs.Call.{beginTask}
 use Rattle.drive.proofs.Calls.{BeginTaskSaid, begin-record}
 use Rattle.stepping.proofs.call.begin_task as core

@@ -41,9 +41,9 @@ use denote.Exit.{yes}
 use Rattle.drive.proofs.Values.{slice, OwnFile}
 use Rattle.records.specs.declared.record.Task.{Task}
 use Rattle.records.proofs.record.Task as T
-use Rattle.stepping.specs.declared.call.Answer.{Answer}
-use Rattle.stepping.proofs.call.Answer as N
-use Rattle.stepping.proofs.call.Answer.Laws as N′
+use Rattle.stepping.specs.declared.answer.StepAnswer.{StepAnswer}
+use Rattle.stepping.proofs.answer.StepAnswer as N
+use Rattle.stepping.proofs.answer.StepAnswer.Laws as N′
 use Rattle.drive.proofs.Calls.{StepSaid, IdleStepSaid, step-past}
 use Rattle.drive.proofs.step_past as past-end
 use Rattle.drive.proofs.step_past.Symbol as past-end-def
@@ -85,7 +85,7 @@ module _ {M : Type 1} (𝓤 : URA M) (H : Heap 𝓤) (A : Atoms 𝓤) (W : Given
   abbrev Post : Val → SProp 𝓤
   Post = walkOf 𝓤 H A fn.ended stayed (fn.clauses 𝓤 H A at-mem run) .post (((κ₀, (κ₁, (κ₂, tt))), (q₀, (q₁, (q₂, tt))), tt, x, at), tt)
 
-  exits : (r : Answer) (v : Val) (cs′ : List ℕ) (ys′ : List Task) → StepSaid (file .now) (cells .now) (row .now) t cs′ ys′ r → length cs′ ≡ length (cells .now) → length ys′ ≡ length (row .now) → t < 2 ^ 64
+  exits : (r : StepAnswer) (v : Val) (cs′ : List ℕ) (ys′ : List Task) → StepSaid (file .now) (cells .now) (row .now) t cs′ ys′ r → length cs′ ≡ length (cells .now) → length ys′ ≡ length (row .now) → t < 2 ^ 64
       → ent 𝓤 (⋆ 𝓤 H A (‵ (flft κ₀ q₀) ∷ ‵ (flft κ₁ q₁) ∷ ‵ (flft κ₂ q₂) ∷ ‵ (OwnFile κ₀ file) ∷ ‵ (finally u64 (cells .name) cs′) ∷ ‵ (finally T.the-row (row .name) ys′) ∷ ‵ (N.the-row .own r (v ∷ [])) ∷ [])) (Post v)
   exits r v cs′ ys′ said lc ly gt =
       qed W (‵ (flft κ₀ q₀) ∷ ‵ (flft κ₁ q₁) ∷ ‵ (flft κ₂ q₂) ∷ ‵ (OwnFile κ₀ file) ∷ ‵ (finally u64 (cells .name) cs′) ∷ ‵ (finally T.the-row (row .name) ys′) ∷ ‵ (N.the-row .own r (v ∷ [])) ∷ []) ∵
@@ -142,7 +142,7 @@ module _ {M : Type 1} (𝓤 : URA M) (H : Heap 𝓤) (A : Atoms 𝓤) (W : Given
         move ! (2 ∷ 0 ∷ []) $ fjoin ! $ move ! (1 ∷ 0 ∷ []) $ fjoin ! $ move ! (29 ∷ 0 ∷ []) $ fjoin ! $ move ! (27 ∷ 0 ∷ []) $ fjoin ! $ nothing ! $ move ! (31 ∷ 0 ∷ []) $
         join ! $ move ! (30 ∷ 0 ∷ []) $ join ! $ use2 W (raw (Past 𝓤 H A at-mem run .pre to-past)) goes-past $
         calls-at ! fm (Past 𝓤 H A at-mem run) known-p to-past (and-then ! (load ! (from ! (stop !)) (look ! 23 refl)) (and-then ! (load ! (from ! (stop !)) (look ! 9 refl)) (and-then ! (load ! (from ! (stop !)) (look ! 15 refl)) (and-then ! (load ! (from ! (stop !)) (look ! 17 refl)) (no-more !))))) (λ v.
-        use1 W (later (some (λ (r : Answer). ((‵ (flft κ₀ q₀) ⊛ ‵ (flft κ₁ q₁) ⊛ ‵ ftrue) ⊛ ‵ (N.the-row .own r (v ∷ []))) ⊛ raw (ensured 𝓤 H A past-end.ended (past-end.clauses 𝓤 H A at-mem run) (κ₀, (κ₁, tt)) args tt r)))) (id⊢ 𝓤 _) $
+        use1 W (later (some (λ (r : StepAnswer). ((‵ (flft κ₀ q₀) ⊛ ‵ (flft κ₁ q₁) ⊛ ‵ ftrue) ⊛ ‵ (N.the-row .own r (v ∷ []))) ⊛ raw (ensured 𝓤 H A past-end.ended (past-end.clauses 𝓤 H A at-mem run) (κ₀, (κ₁, tt)) args tt r)))) (id⊢ 𝓤 _) $
         await ! tt $ pick ! (λ r. split ! $ move ! (1 ∷ []) $
         use1 W (some (λ (zs : Unit {0} × (List ℕ × (Unit {0} × (Unit {0} × Unit {0})))). ‵ (lasts past-end.ended (κ₀, (κ₁, tt)) args zs) ⊛ raw (fact 𝓤 (IdleStepSaid (file .now) (cells .now) (length (row .now)) t (zs .1 .0) r)))) (id⊢ 𝓤 _) $
         pick ! (λ zs. split ! $ move ! (1 ∷ []) $ heard ! (IdleStepSaid (file .now) (cells .now) (length (row .now)) t (zs .1 .0) r) (λ e. fsplit ! $ drop ! $ fsplit ! $
@@ -170,7 +170,7 @@ module _ {M : Type 1} (𝓤 : URA M) (H : Heap 𝓤) (A : Atoms 𝓤) (W : Given
         fjoin ! $ move ! (27 ∷ 0 ∷ []) $ fjoin ! $ nothing ! $ move ! (31 ∷ 0 ∷ []) $ join ! $ move ! (30 ∷ 0 ∷ []) $ join ! $ move ! (29 ∷ 0 ∷ []) $ join ! $
         use2 W (raw (Inside 𝓤 H A at-mem run .pre to-inside)) (goes-inside within) $
         calls-at ! fm (Inside 𝓤 H A at-mem run) known-i to-inside (and-then ! (load ! (from ! (stop !)) (look ! 23 refl)) (and-then ! (load ! (from ! (stop !)) (look ! 5 refl)) (and-then ! (load ! (from ! (stop !)) (look ! 1 refl)) (and-then ! (load ! (from ! (stop !)) (look ! 17 refl)) (no-more !))))) (λ v.
-        use1 W (later (some (λ (r : Answer). ((‵ (flft κ₀ q₀) ⊛ ‵ (flft κ₁ q₁) ⊛ ‵ (flft κ₂ q₂) ⊛ ‵ ftrue) ⊛ ‵ (N.the-row .own r (v ∷ []))) ⊛ raw (ensured 𝓤 H A inside.ended (inside.clauses 𝓤 H A at-mem run) (κ₀, (κ₁, (κ₂, tt))) x tt r)))) (id⊢ 𝓤 _) $
+        use1 W (later (some (λ (r : StepAnswer). ((‵ (flft κ₀ q₀) ⊛ ‵ (flft κ₁ q₁) ⊛ ‵ (flft κ₂ q₂) ⊛ ‵ ftrue) ⊛ ‵ (N.the-row .own r (v ∷ []))) ⊛ raw (ensured 𝓤 H A inside.ended (inside.clauses 𝓤 H A at-mem run) (κ₀, (κ₁, (κ₂, tt))) x tt r)))) (id⊢ 𝓤 _) $
         await ! tt $ pick ! (λ r. split ! $ move ! (1 ∷ []) $
         use1 W (some (λ (zs : Unit {0} × (List ℕ × (List Task × (Unit {0} × Unit {0})))). ‵ (lasts inside.ended (κ₀, (κ₁, (κ₂, tt))) x zs) ⊛ raw (fact 𝓤 (StepSaid (file .now) (cells .now) (row .now) t (zs .1 .0) (zs .1 .1 .0) r)))) (id⊢ 𝓤 _) $
         pick ! (λ zs. split ! $ move ! (1 ∷ []) $ heard ! (StepSaid (file .now) (cells .now) (row .now) t (zs .1 .0) (zs .1 .1 .0) r) (λ e. fsplit ! $ drop ! $ fsplit ! $

@@ -49,9 +49,9 @@ use Rattle.drive.proofs.RecordCalls.{Plain, record-at, RecordBody, lend
 use Rattle.records.specs.declared.record.Task.{Task}
 use Rattle.records.proofs.record.Task as T
 use Rattle.records.proofs.record.Task.Laws as T′
-use Rattle.stepping.specs.declared.call.Answer.{Answer}
-use Rattle.stepping.proofs.call.Answer as N
-use Rattle.stepping.proofs.call.Answer.Laws as N′
+use Rattle.stepping.specs.declared.answer.StepAnswer.{StepAnswer}
+use Rattle.stepping.proofs.answer.StepAnswer as N
+use Rattle.stepping.proofs.answer.StepAnswer.Laws as N′
 use Rattle.records.specs.Record.{idleTask}
 use Rattle.drive.proofs.Calls.{StepSaid, StepTaskSaid, step-inside}
 use Rattle.drive.proofs.step_record as core
@@ -90,7 +90,7 @@ module _ {M : Type 1} (𝓤 : URA M) (H : Heap 𝓤) (A : Atoms 𝓤) (W : Given
   abbrev lent : ℕ → GName → RefT Task
   lent l δ = record { ptr = (l, 0); name = δ; now = h }
 
-  exits : (r : Answer) (v : Val) (cs′ : List ℕ) (ys′ : List Task) → StepSaid (file .now) (cells .now) ys t cs′ ys′ r → length cs′ ≡ length (cells .now) → length ys′ ≡ length ys → Room T.the-row (length ys) → t < 2 ^ 64
+  exits : (r : StepAnswer) (v : Val) (cs′ : List ℕ) (ys′ : List Task) → StepSaid (file .now) (cells .now) ys t cs′ ys′ r → length cs′ ≡ length (cells .now) → length ys′ ≡ length ys → Room T.the-row (length ys) → t < 2 ^ 64
       → ent 𝓤 (⋆ 𝓤 H A (‵ (flft κ₀ q₀) ∷ ‵ (flft κ₁ q₁) ∷ ‵ (flft κ₂ q₂) ∷ ‵ (OwnFile κ₀ file) ∷ ‵ (finally u64 (cells .name) cs′) ∷ ‵ (fobs γ (codedHoleys T.the-row .code (heres T.the-row ys′))) ∷ ‵ (fbor κ₂ (Held T.the-row (length ys′) b o γ)) ∷ ‵ (N.the-row .own r (v ∷ [])) ∷ [])) (Post v)
   exits r v cs′ ys′ said lc ly room gt =
       qed W (‵ (flft κ₀ q₀) ∷ ‵ (flft κ₁ q₁) ∷ ‵ (flft κ₂ q₂) ∷ ‵ (OwnFile κ₀ file) ∷ ‵ (finally u64 (cells .name) cs′) ∷ ‵ (fobs γ (codedHoleys T.the-row .code (heres T.the-row ys′))) ∷ ‵ (fbor κ₂ (Held T.the-row (length ys′) b o γ)) ∷ ‵ (N.the-row .own r (v ∷ [])) ∷ []) ∵
@@ -131,7 +131,7 @@ module _ {M : Type 1} (𝓤 : URA M) (H : Heap 𝓤) (A : Atoms 𝓤) (W : Given
         use2 W (raw (StepRecord 𝓤 H A at-mem run .pre (to-step-record 𝓤 H A at-mem run κ₀ κ₁ (α ∷ []) q₀ q₁ fullShare file cells (length ys) t (lent l6 δ)))) (goes-step-record 𝓤 H A at-mem run κ₀ κ₁ (α ∷ []) q₀ q₁ fullShare file cells (length ys) t (lent l6 δ) W) $
         -- [the callee's pre; the lender's part; the record; what it owns; the others; the open borrow; obs; auth; the locals but _6; the file]
         calls-at ! fm (StepRecord 𝓤 H A at-mem run) known-c (to-step-record 𝓤 H A at-mem run κ₀ κ₁ (α ∷ []) q₀ q₁ fullShare file cells (length ys) t (lent l6 δ)) (and-then ! (load ! (from ! (stop !)) (look ! 33 refl)) (and-then ! (load ! (from ! (stop !)) (look ! 12 refl)) (and-then ! (load ! (from ! (stop !)) (look ! 25 refl)) (and-then ! (load ! (from ! (stop !)) (look ! 27 refl)) (and-then ! (load ! (from ! (stop !)) (look ! 10 refl)) (no-more !)))))) (λ v.
-        use1 W (later (some (λ (a : Answer). ((‵ (flft κ₀ q₀) ⊛ ‵ (flft κ₁ q₁) ⊛ ‵ (flft (α ∷ []) fullShare) ⊛ ‵ ftrue) ⊛ ‵ (N.the-row .own a (v ∷ []))) ⊛ raw (ensured 𝓤 H A core.ended (core.clauses 𝓤 H A at-mem run) (κ₀, (κ₁, (α ∷ [], tt))) (step-record-args file cells (length ys) t (lent l6 δ)) tt a)))) (id⊢ 𝓤 _) $
+        use1 W (later (some (λ (a : StepAnswer). ((‵ (flft κ₀ q₀) ⊛ ‵ (flft κ₁ q₁) ⊛ ‵ (flft (α ∷ []) fullShare) ⊛ ‵ ftrue) ⊛ ‵ (N.the-row .own a (v ∷ []))) ⊛ raw (ensured 𝓤 H A core.ended (core.clauses 𝓤 H A at-mem run) (κ₀, (κ₁, (α ∷ [], tt))) (step-record-args file cells (length ys) t (lent l6 δ)) tt a)))) (id⊢ 𝓤 _) $
         await ! tt $ pick ! (λ a. split ! $ move ! (1 ∷ []) $
         use1 W (some (λ (zs : Unit {0} × (List ℕ × (Unit {0} × (Unit {0} × (Task × Unit {0}))))). ‵ (lasts core.ended (κ₀, (κ₁, (α ∷ [], tt))) (step-record-args file cells (length ys) t (lent l6 δ)) zs) ⊛ raw (fact 𝓤 (StepTaskSaid (file .now) (cells .now) (length ys) t h (zs .1 .0) (zs .1 .1 .1 .1 .0) a)))) (id⊢ 𝓤 _) $
         pick ! (λ zs. split ! $ move ! (1 ∷ []) $ heard ! (StepTaskSaid (file .now) (cells .now) (length ys) t h (zs .1 .0) (zs .1 .1 .1 .1 .0) a) (λ e. fsplit ! $

@@ -47,12 +47,12 @@ use Rattle.drive.proofs.TaskCalls.{StepCall, StepAnswered, step-answere
 use Rattle.records.specs.declared.record.Task.{Task}
 use Rattle.records.proofs.record.Task as T
 use Rattle.records.proofs.record.Task.Laws as T′
-use Rattle.stepping.specs.declared.call.Answer.{Answer}
-use Rattle.stepping.proofs.call.Answer as N
-use Rattle.stepping.proofs.call.Answer.Laws as N′
-use Rattle.stepping.specs.declared.call.Step.{Step}
-use Rattle.stepping.proofs.call.Step as O
-use Rattle.stepping.proofs.call.Step.Laws as O′
+use Rattle.stepping.specs.declared.answer.StepAnswer.{StepAnswer}
+use Rattle.stepping.proofs.answer.StepAnswer as N
+use Rattle.stepping.proofs.answer.StepAnswer.Laws as N′
+use Rattle.stepping.specs.declared.answer.Step.{Step}
+use Rattle.stepping.proofs.answer.Step as O
+use Rattle.stepping.proofs.answer.Step.Laws as O′
 use Rattle.drive.proofs.Calls.{StepTaskSaid, step-record}
 use Rattle.stepping.proofs.call.step_task as core
 use Rattle.stepping.proofs.call.step_task.Symbol as core-def
@@ -85,7 +85,7 @@ module _ {M : Type 1} (𝓤 : URA M) (H : Heap 𝓤) (A : Atoms 𝓤) (W : Given
   abbrev Post : Val → SProp 𝓤
   Post = walkOf 𝓤 H A fn.ended stayed (fn.clauses 𝓤 H A at-mem run) .post (((κ₀, (κ₁, (κ₂, tt))), (q₀, (q₁, (q₂, tt))), tt, x, at), tt)
 
-  exits : (r : Answer) (v : Val) (cs′ : List ℕ) (h′ : Task) → StepTaskSaid (file .now) (cells .now) n t h cs′ h′ r → length cs′ ≡ length (cells .now) → n < 2 ^ 64 → t < 2 ^ 64
+  exits : (r : StepAnswer) (v : Val) (cs′ : List ℕ) (h′ : Task) → StepTaskSaid (file .now) (cells .now) n t h cs′ h′ r → length cs′ ≡ length (cells .now) → n < 2 ^ 64 → t < 2 ^ 64
       → ent 𝓤 (⋆ 𝓤 H A (‵ (flft κ₀ q₀) ∷ ‵ (flft κ₁ q₁) ∷ ‵ (flft κ₂ q₂) ∷ ‵ (OwnFile κ₀ file) ∷ ‵ (finally u64 (cells .name) cs′) ∷ ‵ (fobs γ (T.the-row .coded .code h′)) ∷ ‵ (fbor κ₂ (Body (mem T.the-row) b o γ)) ∷ ‵ (N.the-row .own r (v ∷ [])) ∷ [])) (Post v)
   exits r v cs′ h′ said lc gn gt =
       qed W (‵ (flft κ₀ q₀) ∷ ‵ (flft κ₁ q₁) ∷ ‵ (flft κ₂ q₂) ∷ ‵ (OwnFile κ₀ file) ∷ ‵ (finally u64 (cells .name) cs′) ∷ ‵ (fobs γ (T.the-row .coded .code h′)) ∷ ‵ (fbor κ₂ (Body (mem T.the-row) b o γ)) ∷ ‵ (N.the-row .own r (v ∷ [])) ∷ []) ∵
@@ -134,7 +134,7 @@ module _ {M : Type 1} (𝓤 : URA M) (H : Heap 𝓤) (A : Atoms 𝓤) (W : Given
         owned ! O.the-row (Is O.the-row) (LL.makes O.the-type O′.the-plain 𝓤 H A) r (step-mach r ∷ []) (subst (Is O.the-row r) (LL.tells O.the-type O′.the-laws r (v ∷ []) is) is) $
         use1 W (raw (StepAnswered 𝓤 H A at-mem run .pre (to-step-answer 𝓤 H A W at-mem run r))) (goes-step-answer 𝓤 H A W at-mem run r) $
         calls-at ! fm (StepAnswered 𝓤 H A at-mem run) known-a (to-step-answer 𝓤 H A W at-mem run r) (and-then ! (load ! (from ! (stop !)) (look ! 12 refl)) (no-more !)) (λ v′.
-        use1 W (later (some (λ (a : Answer). (‵ ftrue ⊛ ‵ (N.the-row .own a (v′ ∷ []))) ⊛ raw (ensured 𝓤 H A answer.ended (answer.clauses 𝓤 H A at-mem run) tt (r, tt) tt a)))) (id⊢ 𝓤 _) $
+        use1 W (later (some (λ (a : StepAnswer). (‵ ftrue ⊛ ‵ (N.the-row .own a (v′ ∷ []))) ⊛ raw (ensured 𝓤 H A answer.ended (answer.clauses 𝓤 H A at-mem run) tt (r, tt) tt a)))) (id⊢ 𝓤 _) $
         await ! tt $ pick ! (λ a. split ! $ move ! (1 ∷ []) $ use1 W (raw (fact 𝓤 (a ≡ r .answer))) (step-answered 𝓤 H A at-mem run r a) $ heard ! (a ≡ r .answer) (λ ea.
         split ! $ drop ! $ peeks ! N.the-row (Is N.the-row) (shows 𝓤 H A N.the-row) a (v′ ∷ []) (λ is′.
         land ! (from ! (stop !)) (init ! 24 refl (EL.lawful N.the-type N′.the-laws 𝓤 H A W tt .typed a _ is′ .0)) $

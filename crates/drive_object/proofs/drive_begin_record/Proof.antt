@@ -36,10 +36,10 @@ use denote.Triple.Walked.{says, Stays, gave-ref, stay-none, stay-none-slice, wal
 use denote.Exit.{yes}
 use Rattle.records.specs.declared.record.Task.{Task}
 use Rattle.records.proofs.record.Task as T
-use Rattle.stepping.specs.declared.call.BeginAnswer.{BeginAnswer}
-use Rattle.stepping.proofs.call.BeginAnswer as N
-use Rattle.stepping.proofs.call.BeginAnswer.Laws as N′
-use Rattle.stepping.specs.declared.call.Begin.{Begin}
+use Rattle.stepping.specs.declared.answer.BeginAnswer.{BeginAnswer}
+use Rattle.stepping.proofs.answer.BeginAnswer as N
+use Rattle.stepping.proofs.answer.BeginAnswer.Laws as N′
+use Rattle.stepping.specs.declared.answer.Begin.{Begin}
 use Rattle.stepping.specs.Call.{beginTask}
 use Rattle.drive.proofs.Values.{slice, OwnFile}
 use Rattle.drive.proofs.Calls.{BeginTaskSaid}

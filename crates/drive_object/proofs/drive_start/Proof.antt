@@ -38,9 +38,9 @@ use denote.Triple.Walked.{says, Stays, gave-slice, stay-none-slice, walkOf, AllG
 use denote.Exit.{yes}
 use Rattle.records.specs.declared.record.Task.{Task}
 use Rattle.records.proofs.record.Task as T
-use Rattle.stepping.specs.declared.call.StartAnswer.{StartAnswer}
-use Rattle.stepping.proofs.call.StartAnswer as N
-use Rattle.stepping.proofs.call.StartAnswer.Laws as N′
+use Rattle.stepping.specs.declared.answer.StartAnswer.{StartAnswer}
+use Rattle.stepping.proofs.answer.StartAnswer as N
+use Rattle.stepping.proofs.answer.StartAnswer.Laws as N′
 use Rattle.stepping.specs.Call.{StartOutcome, startOf}
 use Rattle.drive.proofs.Values.{slice, OwnFile}
 use Rattle.drive.proofs.Starts.{StartSaid}

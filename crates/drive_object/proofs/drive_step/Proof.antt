@@ -38,9 +38,9 @@ use denote.Triple.Walked.{says, Stays, gave-slice, stay-none, stay-none-slice, w
 use denote.Exit.{yes}
 use Rattle.records.specs.declared.record.Task.{Task}
 use Rattle.records.proofs.record.Task as T
-use Rattle.stepping.specs.declared.call.Answer.{Answer}
-use Rattle.stepping.proofs.call.Answer as N
-use Rattle.stepping.proofs.call.Answer.Laws as N′
+use Rattle.stepping.specs.declared.answer.StepAnswer.{StepAnswer}
+use Rattle.stepping.proofs.answer.StepAnswer as N
+use Rattle.stepping.proofs.answer.StepAnswer.Laws as N′
 use Rattle.stepping.specs.Call.{StepOutcome, stepOf}
 use Rattle.drive.proofs.Values.{slice, OwnFile}
 use Rattle.drive.proofs.Calls.{StepSaid}
@@ -66,7 +66,7 @@ abbrev stayed : Stays (fn.ended .signature .params) (fn.ended .kept)
 stayed = (stay-none-slice (0 ∷ []) tt (plain (λ _. u8)) yes, (gave-slice (1 ∷ []) tt (plain (λ _. u64)), (gave-slice (2 ∷ []) tt (plain (λ _. T.the-row)), (stay-none (λ _. usize) yes, tt))))
 
 -- what the contract says at exit, from what the call and the word say
-word-said : (file : List ℕ) (cells : List ℕ) (row : List Task) (t : ℕ) (cs′ : List ℕ) (ys′ : List Task) (a : Answer) (r : ℕ) → StepSaid file cells row t cs′ ys′ a → r ≡ stepWord a → (cs′ ≡ stepOf file cells row t .cells) × (ys′ ≡ stepOf file cells row t .row) × (r ≡ stepWord (stepOf file cells row t .answer))
+word-said : (file : List ℕ) (cells : List ℕ) (row : List Task) (t : ℕ) (cs′ : List ℕ) (ys′ : List Task) (a : StepAnswer) (r : ℕ) → StepSaid file cells row t cs′ ys′ a → r ≡ stepWord a → (cs′ ≡ stepOf file cells row t .cells) × (ys′ ≡ stepOf file cells row t .row) × (r ≡ stepWord (stepOf file cells row t .answer))
 word-said file cells row t cs′ ys′ a r e er = (ap (λ (b : StepOutcome). b .cells) e, ap (λ (b : StepOutcome). b .row) e, er ∙ ap (λ (b : StepOutcome). stepWord (b .answer)) e)
 
 module _ {M : Type 1} (𝓤 : URA M) (H : Heap 𝓤) (A : Atoms 𝓤) (at-mem : Memory → SProp 𝓤) (run : Routine → Fun 𝓤) where
@@ -118,7 +118,7 @@ module _ {M : Type 1} (𝓤 : URA M) (H : Heap 𝓤) (A : Atoms 𝓤) (W : Given
         -- [_9 to _0; the file, to pass on; the file; the cells; the row; tokens]
         owned ! usize (Is usize) (uint-makes 𝓤 H A W w64) t _ (refl, gt) $ nothing ! $ move ! (1 ∷ 0 ∷ []) $ fjoin ! $ move ! (24 ∷ 0 ∷ []) $ fjoin ! $ move ! (23 ∷ 0 ∷ []) $ fjoin ! $ move ! (21 ∷ 0 ∷ []) $ fjoin ! $ nothing ! $ move ! (25 ∷ 0 ∷ []) $ join ! $ move ! (24 ∷ 0 ∷ []) $ join ! $ move ! (23 ∷ 0 ∷ []) $ join ! $ use2 W (raw (Call 𝓤 H A at-mem run .pre to-call)) goes-call $
         calls-at ! fm (Call 𝓤 H A at-mem run) known to-call (and-then ! (load ! (from ! (stop !)) (look ! 17 refl)) (and-then ! (load ! (from ! (stop !)) (look ! 5 refl)) (and-then ! (load ! (from ! (stop !)) (look ! 1 refl)) (and-then ! (load ! (from ! (stop !)) (look ! 11 refl)) (no-more !))))) (λ v.
-        use1 W (later (some (λ (a : Answer). ((‵ (flft κ₀ q₀) ⊛ ‵ (flft κ₁ q₁) ⊛ ‵ (flft κ₂ q₂) ⊛ ‵ ftrue) ⊛ ‵ (N.the-row .own a (v ∷ []))) ⊛ raw (ensured 𝓤 H A called.ended (called.clauses 𝓤 H A at-mem run) (κ₀, (κ₁, (κ₂, tt))) x tt a)))) (id⊢ 𝓤 _) $
+        use1 W (later (some (λ (a : StepAnswer). ((‵ (flft κ₀ q₀) ⊛ ‵ (flft κ₁ q₁) ⊛ ‵ (flft κ₂ q₂) ⊛ ‵ ftrue) ⊛ ‵ (N.the-row .own a (v ∷ []))) ⊛ raw (ensured 𝓤 H A called.ended (called.clauses 𝓤 H A at-mem run) (κ₀, (κ₁, (κ₂, tt))) x tt a)))) (id⊢ 𝓤 _) $
         await ! tt $ pick ! (λ a. split ! $ move ! (1 ∷ []) $
         use1 W (some (λ (zs : Unit {0} × (List ℕ × (List Task × (Unit {0} × Unit {0})))). ‵ (lasts called.ended (κ₀, (κ₁, (κ₂, tt))) x zs) ⊛ raw (fact 𝓤 (StepSaid (file .now) (cells .now) (row .now) t (zs .1 .0) (zs .1 .1 .0) a)))) (id⊢ 𝓤 _) $
         pick ! (λ zs. split ! $ move ! (1 ∷ []) $ heard ! (StepSaid (file .now) (cells .now) (row .now) t (zs .1 .0) (zs .1 .1 .0) a) (λ e. fsplit ! $ drop ! $ fsplit ! $ fsplit ! $ move ! (1 ∷ []) $ feqL ! (λ lc. move ! (1 ∷ []) $ fsplit ! $ fsplit ! $ move ! (1 ∷ []) $ feqL ! (λ ly. move ! (1 ∷ []) $ drop ! $ move ! (2 ∷ []) $ split ! $ move ! (1 ∷ []) $ peeks ! N.the-row (Is N.the-row) (shows 𝓤 H A N.the-row) a (v ∷ []) (λ is. drop ! $

@@ -37,9 +37,9 @@ use denote.Triple.Walked.{says, Stays, gave-ref, gave-slice, stay-none, stay-non
 use denote.Exit.{yes}
 use Rattle.records.specs.declared.record.Task.{Task}
 use Rattle.records.proofs.record.Task as T
-use Rattle.stepping.specs.declared.call.Answer.{Answer}
-use Rattle.stepping.proofs.call.Answer as N
-use Rattle.stepping.proofs.call.Answer.Laws as N′
+use Rattle.stepping.specs.declared.answer.StepAnswer.{StepAnswer}
+use Rattle.stepping.proofs.answer.StepAnswer as N
+use Rattle.stepping.proofs.answer.StepAnswer.Laws as N′
 use Rattle.stepping.specs.Call.{stepTask}
 use Rattle.stepping.specs.Step.{TaskOutcome}
 use Rattle.drive.proofs.Values.{slice, OwnFile}
@@ -64,7 +64,7 @@ abbrev stayed : Stays (fn.ended .signature .params) (fn.ended .kept)
 stayed = (stay-none-slice (0 ∷ []) tt (plain (λ _. u8)) yes, (gave-slice (1 ∷ []) tt (plain (λ _. u64)), (stay-none (λ _. usize) yes, (stay-none (λ _. usize) yes, (gave-ref (2 ∷ []) tt (plain (λ _. T.the-row)), tt)))))
 
 -- what the contract says at exit, from what the call and the word say
-word-said : (file cells : List ℕ) (n t : ℕ) (own : Task) (cs′ : List ℕ) (own′ : Task) (a : Answer) (r : ℕ) → StepTaskSaid file cells n t own cs′ own′ a → r ≡ stepWord a
+word-said : (file cells : List ℕ) (n t : ℕ) (own : Task) (cs′ : List ℕ) (own′ : Task) (a : StepAnswer) (r : ℕ) → StepTaskSaid file cells n t own cs′ own′ a → r ≡ stepWord a
     → (cs′ ≡ stepTask file cells n t own .cells) × (own′ ≡ stepTask file cells n t own .task) × (r ≡ stepWord (stepTask file cells n t own .answer))
 word-said file cells n t own cs′ own′ a r e er = (ap (λ (b : TaskOutcome). b .cells) e, ap (λ (b : TaskOutcome). b .task) e, er ∙ ap (λ (b : TaskOutcome). stepWord (b .answer)) e)
 
@@ -101,7 +101,7 @@ module _ {M : Type 1} (𝓤 : URA M) (H : Heap 𝓤) (A : Atoms 𝓤) (W : Given
         use2 W (raw (StepRecord 𝓤 H A at-mem run .pre (to-step-record 𝓤 H A at-mem run κ₀ κ₁ κ₂ q₀ q₁ q₂ file cells n t own))) (goes-step-record 𝓤 H A at-mem run κ₀ κ₁ κ₂ q₀ q₁ q₂ file cells n t own W) $
         -- [the callee's pre; the locals; the file]
         calls-at ! fm (StepRecord 𝓤 H A at-mem run) known (to-step-record 𝓤 H A at-mem run κ₀ κ₁ κ₂ q₀ q₁ q₂ file cells n t own) (and-then ! (load ! (from ! (stop !)) (look ! 17 refl)) (and-then ! (load ! (from ! (stop !)) (look ! 3 refl)) (and-then ! (load ! (from ! (stop !)) (look ! 13 refl)) (and-then ! (load ! (from ! (stop !)) (look ! 11 refl)) (and-then ! (load ! (from ! (stop !)) (look ! 1 refl)) (no-more !)))))) (λ v.
-        use1 W (later (some (λ (a : Answer). ((‵ (flft κ₀ q₀) ⊛ ‵ (flft κ₁ q₁) ⊛ ‵ (flft κ₂ q₂) ⊛ ‵ ftrue) ⊛ ‵ (N.the-row .own a (v ∷ []))) ⊛ raw (ensured 𝓤 H A called.ended (called.clauses 𝓤 H A at-mem run) (κ₀, (κ₁, (κ₂, tt))) (step-record-args file cells n t own) tt a)))) (id⊢ 𝓤 _) $
+        use1 W (later (some (λ (a : StepAnswer). ((‵ (flft κ₀ q₀) ⊛ ‵ (flft κ₁ q₁) ⊛ ‵ (flft κ₂ q₂) ⊛ ‵ ftrue) ⊛ ‵ (N.the-row .own a (v ∷ []))) ⊛ raw (ensured 𝓤 H A called.ended (called.clauses 𝓤 H A at-mem run) (κ₀, (κ₁, (κ₂, tt))) (step-record-args file cells n t own) tt a)))) (id⊢ 𝓤 _) $
         await ! tt $ pick ! (λ a. split ! $ move ! (1 ∷ []) $
         use1 W (some (λ (zs : Unit {0} × (List ℕ × (Unit {0} × (Unit {0} × (Task × Unit {0}))))). ‵ (lasts called.ended (κ₀, (κ₁, (κ₂, tt))) (step-record-args file cells n t own) zs) ⊛ raw (fact 𝓤 (StepTaskSaid (file .now) (cells .now) n t (own .now) (zs .1 .0) (zs .1 .1 .1 .1 .0) a)))) (id⊢ 𝓤 _) $
         pick ! (λ zs. split ! $ move ! (1 ∷ []) $ heard ! (StepTaskSaid (file .now) (cells .now) n t (own .now) (zs .1 .0) (zs .1 .1 .1 .1 .0) a) (λ e. fsplit ! $

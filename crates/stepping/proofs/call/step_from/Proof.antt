@@ -72,7 +72,7 @@ returns-3 c =
     let p = t .before .before in
     let s = p .before .before .before .before .before .before .before in
     let formed = sym (t .cell-in-form .ensures) ∙ not-false (t .cell-in-form .result) (u .before .if2 .left) in
-    refused (s .args .cells .now) (s .args .own) cause.Entry (c .refuse-step3 .result) (c .refuse-step3 .ensures)
+    refused (s .args .cells .now) (s .args .own) cause.NextState (c .refuse-step3 .result) (c .refuse-step3 .ensures)
     ∙ entry-refused (s .args .file .now) (s .args .shape) (s .args .cells .now) (s .args .tasks) (s .args .task) (s .args .own) (s .args .phase)
     (p .before .plan .result) (p .touched-by .result) (p .before .before .before .if1 .left) (p .before .plan .ensures) (p .touched-by .ensures)
     formed (sym (u .used-in-range .ensures) ∙ not-true (u .used-in-range .result) (c .before .if3 .taken))
