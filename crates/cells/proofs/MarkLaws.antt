@@ -9,8 +9,12 @@ use native.Mathlib.Omega.{arith}
 use borrow.Author.Tests.{eqb-true, eqb-false, leb-true, leb-false}
 use lib.Arith.{half-le}
 use lib.Dec.{eqb, leb}
-use lib.Pow.{mod-pow-add}
+use lib.Pow.{mod-pow-add, pow-lt}
 use Rattle.cells.specs.Marks.{none, has, add, remove}
+
+-- A mark shifted to its place in a word of 64 bits loses nothing.
+pub one-shifted : (i : ℕ) → i < 64 → 1 * 2 ^ i % 2 ^ 64 ≡ 2 ^ i
+one-shifted i h = omega (arith, pow-lt h)
 
 -- A number is its half twice and its lowest bit; what stands at index i + 1 stands at index i of the half.
 half-place : (i w : ℕ) → w / 2 ^ suc i ≡ w / 2 / 2 ^ i

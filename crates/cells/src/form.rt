@@ -1,6 +1,5 @@
 // Which words are in form.
 use crate::layout;
-use crate::marks;
 ghost use mathlib.Core.Path.{_≡_};
 ghost use Rattle.cells.specs.Form.{headInForm, announcementInForm, marksInForm};
 
@@ -11,10 +10,10 @@ const HOLDER_BOUND: u64 = 8;
 fn marks_in_form(word: u64, tasks: usize) -> bool
     ensures { λ r. ⌜ r ≡ marksInForm tasks word ⌝ }
 {
-    if tasks < layout::MARK_COUNT {
-        return word % layout::MARKS_SIZE < marks::mark_of(tasks);
+    if tasks > layout::MARK_COUNT {
+        return true;
     }
-    true
+    word % layout::MARKS_SIZE < 1 << tasks
 }
 
 // Whether a head is in form, for a table with `states` states.

@@ -27,13 +27,19 @@ namesTask n phase = ltb phase 16 || ltb (phase % 8) n
 unfoldable pub savedPayloadInForm : ℕ → Task → Bool
 savedPayloadInForm m t = cond (leb 16 (t .phase) && leb (t .phase) 31) (ltb (t .payload) m) true
 
--- The pending form: the named task, the operation, the priority and the steps in range, and the saved words in form.
-unfoldable pub pendingInForm : Shape → (n ceiling : ℕ) → Task → Bool
-pendingInForm shape n ceiling t =
+-- The numbers of a pending record: the named task, the operation, the priority and the steps in range, and the payload.
+unfoldable pub numbersInForm : Shape → (n ceiling : ℕ) → Task → Bool
+numbersInForm shape n ceiling t =
     namesTask n (t .phase) && ltb (t .operation) (shape .operations) && ltb (t .priority) n && ltb (t .steps) ceiling
     && savedPayloadInForm (shape .operations) t
-    && headInForm (shape .states) n (t .head)
-    && announcementInForm (shape .operations) n (t .announcement)
+
+-- The saved words are in form, as a head and as an announcement.
+unfoldable pub wordsInForm : Shape → ℕ → Task → Bool
+wordsInForm shape n t = headInForm (shape .states) n (t .head) && announcementInForm (shape .operations) n (t .announcement)
+
+-- The pending form: its numbers in range, and the saved words in form.
+unfoldable pub pendingInForm : Shape → (n ceiling : ℕ) → Task → Bool
+pendingInForm shape n ceiling t = numbersInForm shape n ceiling t && wordsInForm shape n t
 
 -- A record is in the idle form in phase 0, and in the pending form in every other phase.
 unfoldable pub recordInForm : Shape → (n ceiling : ℕ) → Task → Bool

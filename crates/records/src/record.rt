@@ -5,7 +5,7 @@ use cells::form;
 use refusal::Refusal;
 use table::Shape;
 ghost use mathlib.Core.Path.{_≡_};
-ghost use Rattle.records.specs.Record.{idleTask, idleInForm, namesTask, savedPayloadInForm, pendingInForm, recordInForm, readRecord};
+ghost use Rattle.records.specs.Record.{idleTask, idleInForm, namesTask, savedPayloadInForm, numbersInForm, wordsInForm, pendingInForm, recordInForm, readRecord};
 
 // Which fields a phase uses, and their forms and ranges, stand in docs/RECORDS.md. Its size is 32 bytes, without gaps.
 #[repr(C)]
@@ -48,7 +48,7 @@ pub fn idle_task(priority: u16) -> Task
 }
 
 // Whether a record is in the idle form.
-fn idle_in_form(tasks: usize, own: Task) -> bool
+pub fn idle_in_form(tasks: usize, own: Task) -> bool
     ensures { λ r. ⌜ r ≡ idleInForm tasks own ⌝ }
 {
     if own.priority as usize >= tasks {
@@ -92,9 +92,9 @@ fn payload_in_form(operations: u16, own: Task) -> bool
     own.payload < operations as u32
 }
 
-// Whether a record is in the pending form.
-fn pending_in_form(shape: Shape, tasks: usize, ceiling: u32, own: Task) -> bool
-    ensures { λ r. ⌜ r ≡ pendingInForm shape tasks ceiling own ⌝ }
+// Whether the numbers of a pending record are in range.
+pub fn numbers_in_form(shape: Shape, tasks: usize, ceiling: u32, own: Task) -> bool
+    ensures { λ r. ⌜ r ≡ numbersInForm shape tasks ceiling own ⌝ }
 {
     if !names_task(tasks, own.phase) {
         return false;
@@ -108,13 +108,27 @@ fn pending_in_form(shape: Shape, tasks: usize, ceiling: u32, own: Task) -> bool
     if own.steps >= ceiling {
         return false;
     }
-    if !payload_in_form(shape.operations, own) {
-        return false;
-    }
+    payload_in_form(shape.operations, own)
+}
+
+// Whether the saved words of a record are in form.
+pub fn words_in_form(shape: Shape, tasks: usize, own: Task) -> bool
+    ensures { λ r. ⌜ r ≡ wordsInForm shape tasks own ⌝ }
+{
     if !form::head_in_form(own.head, shape.states as u32, tasks) {
         return false;
     }
     form::announcement_in_form(own.announcement, shape.operations as u32, tasks)
+}
+
+// Whether a record is in the pending form.
+fn pending_in_form(shape: Shape, tasks: usize, ceiling: u32, own: Task) -> bool
+    ensures { λ r. ⌜ r ≡ pendingInForm shape tasks ceiling own ⌝ }
+{
+    if !numbers_in_form(shape, tasks, ceiling, own) {
+        return false;
+    }
+    words_in_form(shape, tasks, own)
 }
 
 // Whether a record is in the form of its phase.

@@ -1,6 +1,6 @@
 -- A step from its parts: what its tests, its access and what follows give together.
-use mathlib.Core.Path.{_≡_, sym, ap}
-use mathlib.Core.Bool.{true, false}
+use mathlib.Core.Path.{_≡_, refl, sym, ap}
+use mathlib.Core.Bool.{Bool, true, false, cond}
 use mathlib.Core.List.{List}
 use Prim.Native.Nat.{ℕ}
 use borrow.Author.Tests.{eq-eqb, ne-eqb}
@@ -11,6 +11,8 @@ use Rattle.table.specs.declared.Shape.{Shape}
 use Rattle.records.specs.declared.record.Task.{Task}
 use Rattle.records.specs.declared.phase.Phase.{Phase}
 use Rattle.records.specs.declared.phase.PhaseRead.the-variants.{Known}
+use Rattle.records.specs.Phase.{phaseOf}
+use Rattle.records.specs.Record.{idleInForm, pendingInForm, recordInForm, readRecord}
 use Rattle.transition.specs.declared.access.Access.{Access}
 use Rattle.transition.specs.declared.access.Found.{Found}
 use Rattle.transition.specs.declared.access.Next.{Next}
@@ -29,8 +31,24 @@ pub refused : (cells : List ℕ) (t : Task) (reason : Refusal) (r : Step) → r 
 refused cells t reason r e = ap (left cells) e
 
 module _ (file : List ℕ) (shape : Shape) (cells : List ℕ) (n i : ℕ) (t : Task) (f : Phase) where
-  pub idle-refused : t .phase ≡ 0 → refuseStep cells t cause.Idle ≡ stepFrom file shape cells n i t (Known f)
-  idle-refused z = simp (eq-eqb (t .phase) 0 z)
+  -- A record of a known phase, by its form.
+  module _ (c : ℕ) (known : phaseOf (t .phase) ≡ Known f) where
+    pub idle-refused : t .phase ≡ 0 → refuseStep cells t (cond (idleInForm n t) cause.Idle cause.Record) ≡ stepFrom file shape cells n i t (readRecord shape n c t)
+    unfolding readRecord recordInForm
+    idle-refused z = at (idleInForm n t) refl
+      where
+        at : (b : Bool) → idleInForm n t ≡ b → refuseStep cells t (cond (idleInForm n t) cause.Idle cause.Record) ≡ stepFrom file shape cells n i t (readRecord shape n c t)
+        at true e = simp (known, e, eq-eqb (t .phase) 0 z)
+        at false e = simp (known, e, eq-eqb (t .phase) 0 z)
+
+    module _ (pending : t .phase ≡ 0 → ⊥) where
+      pub form-refused : pendingInForm shape n c t ≡ false → refuseStep cells t cause.Record ≡ stepFrom file shape cells n i t (readRecord shape n c t)
+      unfolding readRecord recordInForm
+      form-refused e = simp (known, e, ne-eqb (t .phase) 0 pending)
+
+      pub in-form : pendingInForm shape n c t ≡ true → readRecord shape n c t ≡ Known f
+      unfolding readRecord recordInForm
+      in-form e = simp (known, e, ne-eqb (t .phase) 0 pending)
 
   -- The access a of a pending record, on cell k.
   module _ (a : Access) (k : ℕ) (pending : t .phase ≡ 0 → ⊥) (planned : a ≡ planOf file shape i (t .priority) t f) (place : k ≡ touched a) where

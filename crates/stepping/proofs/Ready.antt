@@ -7,7 +7,6 @@ use native.Mathlib.Omega.{arith}
 use borrow.Author.Tests.{eqb-true, ltb-true, lt-ltb}
 use lib.Dec.{eqb, ltb}
 use Rattle.cells.proofs.Tests.{and-left, and-right}
-use Rattle.cells.specs.Form.{headInForm, announcementInForm}
 use Rattle.table.specs.declared.Shape.{Shape}
 use Rattle.records.specs.declared.record.Task.{Task}
 use Rattle.records.specs.declared.phase.Phase.{Phase}
@@ -15,7 +14,7 @@ use Rattle.records.specs.declared.phase.Phase.the-variants.{Idle, ReadOnly, Ann
 use Rattle.records.specs.declared.phase.PhaseRead.{PhaseRead}
 use Rattle.records.specs.declared.phase.PhaseRead.the-variants.{Known, Refused}
 use Rattle.records.specs.Phase.{phaseOf}
-use Rattle.records.specs.Record.{idleInForm, namesTask, savedPayloadInForm, pendingInForm, recordInForm, readInForm, readRecord}
+use Rattle.records.specs.Record.{idleInForm, namesTask, savedPayloadInForm, numbersInForm, wordsInForm, pendingInForm, recordInForm, readInForm, readRecord}
 use Rattle.transition.specs.Transition.{planOf}
 use Rattle.stepping.specs.Step.{touched}
 use Rattle.records.proofs.Phases.{WorksBelow, works}
@@ -51,15 +50,13 @@ module _ (shape : Shape) (n c : ℕ) (t : Task) where
       record { priority = ltb-true (t .priority) n first; steps = omega (arith, none); names = rw (lt-ltb (t .phase) 16 (omega arith)) }
 
   pending-formed : pendingInForm shape n c t ≡ true → Formed
-  unfolding pendingInForm
+  unfolding pendingInForm numbersInForm
   pending-formed e =
       let a = namesTask n (t .phase) in
       let b = a && ltb (t .operation) (shape .operations) in
       let d = b && ltb (t .priority) n in
       let f = d && ltb (t .steps) c in
-      let g = f && savedPayloadInForm (shape .operations) t in
-      let h = g && headInForm (shape .states) n (t .head) in
-      let counted : f ≡ true = and-left f (savedPayloadInForm (shape .operations) t) (and-left g (headInForm (shape .states) n (t .head)) (and-left h (announcementInForm (shape .operations) n (t .announcement)) e)) in
+      let counted : f ≡ true = and-left f (savedPayloadInForm (shape .operations) t) (and-left (numbersInForm shape n c t) (wordsInForm shape n t) e) in
       let placed : d ≡ true = and-left d (ltb (t .steps) c) counted in
       let few : t .steps < c = ltb-true (t .steps) c (and-right d (ltb (t .steps) c) counted) in
       record { priority = ltb-true (t .priority) n (and-right b (ltb (t .priority) n) placed); steps = omega (arith, few); names = and-left a (ltb (t .operation) (shape .operations)) (and-left b (ltb (t .priority) n) placed) }

@@ -24,7 +24,7 @@ use Rattle.records.specs.declared.phase.Phase.{Phase}
 use Rattle.records.specs.declared.phase.Phase.the-variants as phase
 use Rattle.records.specs.declared.phase.PhaseRead.the-variants.{Known}
 use Rattle.records.specs.Phase.{phaseNumber, phaseOf}
-use Rattle.records.specs.Record.{idleTask, idleInForm, namesTask, savedPayloadInForm, pendingInForm, recordInForm, readRecord}
+use Rattle.records.specs.Record.{idleTask, idleInForm, namesTask, savedPayloadInForm, numbersInForm, wordsInForm, pendingInForm, recordInForm, readRecord}
 use Rattle.transition.specs.Object.{ObjectTable, objectOf}
 use Rattle.transition.specs.Encoding.{encodeHead, encodeAnnouncement, Kept, keep, kept, encodeTask}
 use Rattle.records.proofs.Phases.{WorksBelow, known}
@@ -140,7 +140,7 @@ module _ (file : List ℕ) (shape : Shape) (table : ObjectTable file shape) (n :
 
   -- The record of a pending operation with its steps below the ceiling.
   pub pending-read : (ceiling : ℕ) (t : machine.Task) → TaskFormed object n t → off (kind (t .phase)) ≡ false → t .steps < ceiling → readRecord shape n ceiling (encodeTask t) ≡ Known (kept (t .phase) .phase)
-  unfolding readRecord recordInForm pendingInForm savedPayloadInForm
+  unfolding readRecord recordInForm pendingInForm numbersInForm wordsInForm savedPayloadInForm
   pending-read ceiling t formed e timely =
       let k = kept-formed (t .phase) e (formed .phase) in
       simp (k .read, k .pending, k .names, lt-ltb _ _ (operation-below (kind (t .phase)) (t .operation) (t .steps) e (formed .operation)), lt-ltb _ _ (formed .priority), lt-ltb _ _ timely, k .payload, k .head, k .announcement)

@@ -22,10 +22,11 @@ use transition::next;
 use transition::plan;
 ghost use mathlib.Core.Path.{_≡_};
 ghost use mathlib.Core.Bool.{cond};
-ghost use Prim.Native.Nat.{_≤_, _<_};
+ghost use Prim.Native.Nat.{_+_, _≤_, _<_};
 ghost use lib.ListN.{length};
 ghost use Rattle.table.specs.Entries.{changing};
-ghost use Rattle.records.specs.Phase.{phaseNumber};
+ghost use Rattle.records.specs.Phase.{phaseOf, phaseNumber};
+ghost use Rattle.records.specs.Record.{idleInForm, readRecord};
 ghost use Rattle.transition.specs.Transition.{planOf};
 ghost use Rattle.stepping.specs.Step.{touched};
 ghost use Rattle.stepping.specs.Call.{withRow, admitOf, notGranted, admitStartOf, refuseBegin, begunTask, beginFrom, beginIn, beginTask, stepFrom, stepIn, stepTask};
@@ -191,8 +192,8 @@ fn refuse_step(own: Task, cause: Refusal) -> Step
     }
 }
 
-// A step for a record in form: its access is planned, the touched cell and the used entry are tested, and the access is
-// made.
+// A step for a pending record in form: its access is planned, the touched cell and the used entry are tested, and the
+// access is made.
 fn step_from(
     file: &[u8],
     cells: &mut [u64],
@@ -202,12 +203,9 @@ fn step_from(
     own: Task,
     phase: Phase,
 ) -> Step
-    requires { ⌜ (0 < tasks) × (tasks ≤ 8) × (task < tasks) × (own .priority < tasks) × (own .steps < 1000000) × (touched (planOf (now file) shape task (own .priority) own phase) < length (now cells)) ⌝ }
+    requires { ⌜ (0 < tasks) × (tasks ≤ 8) × (task < tasks) × (own .priority < tasks) × (own .steps < 1000000) × (touched (planOf (now file) shape task (own .priority) own phase) < length (now cells)) × (own .phase ≡ 0 → ⊥) ⌝ }
     ensures { λ r. ⌜ record { cells = now (cells .exit); task = r .task; answer = r .answer } ≡ stepFrom (now (file .entry)) shape (now (cells .entry)) tasks task own (PhaseRead.Known phase) ⌝ }
 {
-    if own.phase == 0 {
-        return refuse_step(own, Refusal::Idle);
-    }
     let place = task as u8;
     let first = own.priority as u8;
     let access = plan::plan(file, shape, place, first, own, phase);
@@ -222,6 +220,43 @@ fn step_from(
     let found = perform::perform(cells, access);
     let next = next::next(file, shape, place, first, own, phase, found);
     advance::advance(tasks, own, next)
+}
+
+// Why a step of an idle task is refused: it has no operation pending, or its record is out of form.
+fn idle_cause(tasks: usize, own: Task) -> Refusal
+    ensures { λ r. ⌜ r ≡ cond (idleInForm tasks own) Refusal.Idle Refusal.Record ⌝ }
+{
+    if record::idle_in_form(tasks, own) {
+        return Refusal::Idle;
+    }
+    Refusal::Record
+}
+
+// A step for a record of a known phase: its form is tested by its parts, which the compiler takes in here; as one function
+// they would be a call.
+fn step_known(
+    file: &[u8],
+    cells: &mut [u64],
+    shape: Shape,
+    ceiling: u32,
+    tasks: usize,
+    task: usize,
+    own: Task,
+    phase: Phase,
+) -> Step
+    requires { ⌜ (0 < tasks) × (tasks ≤ 8) × (ceiling ≤ 512000) × (task < tasks) × (length (now cells) ≡ tasks + 1) × (phaseOf (own .phase) ≡ PhaseRead.Known phase) ⌝ }
+    ensures { λ r. ⌜ record { cells = now (cells .exit); task = r .task; answer = r .answer } ≡ stepFrom (now (file .entry)) shape (now (cells .entry)) tasks task own (readRecord shape tasks ceiling own) ⌝ }
+{
+    if own.phase == 0 {
+        return refuse_step(own, idle_cause(tasks, own));
+    }
+    if !record::numbers_in_form(shape, tasks, ceiling, own) {
+        return refuse_step(own, Refusal::Record);
+    }
+    if !record::words_in_form(shape, tasks, own) {
+        return refuse_step(own, Refusal::Record);
+    }
+    step_from(file, cells, shape, tasks, task, own, phase)
 }
 
 // A step for an admitted table.
@@ -243,10 +278,12 @@ fn step_in(
     if tasks <= task {
         return refuse_step(own, Refusal::Task);
     }
-    let read = record::read_record(shape, tasks, ceiling, own);
+    let read = phase::read_phase(own.phase);
     match read {
         PhaseRead::Refused(cause) => refuse_step(own, cause),
-        PhaseRead::Known(phase) => step_from(file, cells, shape, tasks, task, own, phase),
+        PhaseRead::Known(phase) => {
+            step_known(file, cells, shape, ceiling, tasks, task, own, phase)
+        }
     }
 }
 

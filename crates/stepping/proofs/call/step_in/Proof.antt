@@ -1,11 +1,10 @@
--- The tests in their order; a record in form tells what the step needs.
+-- The tests in their order; the phase is read, and the form is tested after it.
 use mathlib.Core.Path.{sym, _∙_}
 use borrow.Author.Needs.{needs}
 use borrow.Author.Tests.{eq-eqb, ne-eqb, lt-ltb, le-ltb}
-use lib.ListN.{length}
 use Rattle.refusal.specs.declared.Refusal.the-variants as cause
+use Rattle.records.specs.Record.{readRecord}
 use Rattle.stepping.proofs.Parts.{refused}
-use Rattle.stepping.proofs.Ready.{ready}
 use Rattle.stepping.proofs.call.step_in.Statement.{statement}
 use Rattle.stepping.proofs.call.step_in.Tie as tie
 
@@ -28,8 +27,8 @@ returns-2 c =
     let s = c .before .before .before .before .before in
     refused (s .args .cells .now) (s .args .own) cause.Task (c .refuse-step2 .result) (c .refuse-step2 .ensures) ∙ simp (eq-eqb _ _ (c .before .before .if1 .left), le-ltb _ _ (c .before .if2 .taken))
 
-read-record-requires : tie.Need-read-record-requires
-read-record-requires c κs = search needs
+read-phase-requires : tie.Need-read-phase-requires
+read-phase-requires c κs = search needs
 
 enum-known-read : tie.Need-enum-known-read
 enum-known-read c = search needs
@@ -40,20 +39,19 @@ refuse-step-requires-3 c κs = search needs
 enum-known-read-2 : tie.Need-enum-known-read-2
 enum-known-read-2 c = search needs
 
-step-from-requires : tie.Need-step-from-requires
-step-from-requires c κs =
+step-known-requires : tie.Need-step-known-requires
+step-known-requires c κs =
     let read = c .before .before .before .before in
-    let task = read .before .if2 .left in
     let s = read .before .before .before .before .before in
-    let e = ready (s .args .file .now) (s .args .shape) (s .args .tasks) (s .args .ceiling) (length (s .args .cells .now)) (s .args .task) (s .args .own) _ (s .pre .2) (read .before .before .if1 .left) task (sym (read .read-record .ensures) ∙ c .before .before .read2 .given .1) in
-    (s .pre .0, s .pre .1, task, e .priority, e .steps, e .cell)
+    (s .pre .0, s .pre .1, s .pre .2, read .before .if2 .left, read .before .before .if1 .left, sym (read .read-phase .ensures) ∙ c .before .before .read2 .given .1)
 
 returns-3 : tie.Need-returns-3
+unfolding readRecord
 returns-3 c =
     let read = c .before .before .before .before in
     let s = read .before .before .before .before .before in
     refused (s .args .cells .now) (s .args .own) _ (c .refuse-step3 .result) (c .refuse-step3 .ensures)
-    ∙ simp (eq-eqb _ _ (read .before .before .if1 .left), lt-ltb _ _ (read .before .if2 .left), sym (read .read-record .ensures) ∙ c .before .before .read .given .1)
+    ∙ simp (eq-eqb _ _ (read .before .before .if1 .left), lt-ltb _ _ (read .before .if2 .left), sym (read .read-phase .ensures) ∙ c .before .before .read .given .1)
 
 same-length : tie.Need-same-length
 same-length c = search needs
@@ -61,7 +59,7 @@ same-length c = search needs
 returns-4 : tie.Need-returns-4
 returns-4 c =
     let read = c .before .before .before .before .before .before .before in
-    simp (eq-eqb _ _ (read .before .before .if1 .left), lt-ltb _ _ (read .before .if2 .left), sym (read .read-record .ensures) ∙ c .before .before .before .before .before .read2 .given .1) (c .before .before .step-from .ensures)
+    simp (eq-eqb _ _ (read .before .before .if1 .left), lt-ltb _ _ (read .before .if2 .left)) (c .before .before .step-known .ensures)
 
 pub step-in-spec : {M : Type 1} → statement M
 step-in-spec =
@@ -72,11 +70,11 @@ step-in-spec =
     returns
     refuse-step-requires-2
     returns-2
-    read-record-requires
+    read-phase-requires
     enum-known-read
     refuse-step-requires-3
     enum-known-read-2
-    step-from-requires
+    step-known-requires
     returns-3
     same-length
     returns-4)
