@@ -1,0 +1,4 @@
+pub mod Parameters
+pub mod Function
+pub mod Locals
+pub mod Kit
