@@ -7,13 +7,15 @@ use Prim.Native.Nat.{ℕ, suc, _<_}
 use native.Mathlib.Decide.{ℕ-discrete}
 use native.Mathlib.Omega.{arith}
 use lib.ListN.{length}
+use Rattle.laws.specs.Update.{update}
+use Rattle.laws.specs.Places.{At}
+use Rattle.laws.proofs.Tests.{clash}
+use Rattle.laws.proofs.Update.{update-all}
+use Rattle.laws.proofs.Places.{at-same, at-bound, at-none, at-extended, at-next, Either, at-either}
 use Rattle.machine.specs.Object.{Object}
-use Rattle.machine.specs.Update.{update}
 use Rattle.machine.specs.Calls.{Call, Begin, Step, Answer, Begun, Running, Ended, Refused, Event}
 use Rattle.machine.specs.Book.{Operation, Page, Idle, Waiting, Done, Book, blank, turned, entered, Entering, none, enter, Booking, begun, begin-task, begin-operation, begin-pending, running-waiting, running-done, ended, step-task, step-idle}
-use Rattle.machine.specs.History.{At, Begins, Ends, replayed, reached}
-use Rattle.machine.proofs.Update.{clash, update-all}
-use Rattle.machine.proofs.Lists.{at-same, at-bound, at-none, at-extended, at-next, Either, at-either}
+use Rattle.machine.specs.History.{Begins, Ends, replayed, reached}
 use Rattle.machine.proofs.Replay.{reached-next, replayed-next, replayed-before}
 
 -- ---- The invariant, over the whole history es and the number p of its events that are booked

@@ -1,23 +1,27 @@
 -- The potential of an operation that has its response, when the cells and the record of one task i change.
 use mathlib.Core.Path.{_≡_, refl, sym, _∙_, ap}
 use mathlib.Core.Bool.{Bool, true, false, _||_, not, cond}
-use mathlib.Core.Logic.{_≢_}
+use mathlib.Core.Logic.{_≢_, if-neg}
 use Prim.Native.Nat.{ℕ, _+_, _*_, _≤_, _<_}
 use native.Mathlib.Decide.{ℕ-discrete}
 use native.Mathlib.Omega.{arith}
+use Rattle.laws.specs.Update.{update}
+use Rattle.laws.specs.Decision.{decided}
+use Rattle.laws.specs.Sum.{but}
+use Rattle.laws.proofs.Tests.{clash}
+use Rattle.laws.proofs.Update.{update-same, update-other}
+use Rattle.laws.proofs.Sums.{but-change, but-others, but-most}
+use Rattle.laws.proofs.Choice.{pick-le, pick-mono}
 use Rattle.machine.specs.Memory.{HeadValue, Free, Held, Content, Cell, Memory, head-dec, announcement-dec}
-use Rattle.machine.specs.Update.{update}
-use Rattle.machine.specs.Machine.{Phase, Idle, ReadOnly, Announce, Poll, LoadHead, LinkHead, LoadPriority, LoadOwn, Apply, ReloadApply, LoadHelped, LinkHelped, Validate, HandOver, ReloadHandOver, Release, ReloadRelease, ClearHead, ReloadClear, LoadExit, LinkExit, ClearExit, ReleaseExit, Retract, Task, decided}
+use Rattle.machine.specs.Machine.{Phase, Idle, ReadOnly, Announce, Poll, LoadHead, LinkHead, LoadPriority, LoadOwn, Apply, ReloadApply, LoadHelped, LinkHelped, Validate, HandOver, ReloadHandOver, Release, ReloadRelease, ClearHead, ReloadClear, LoadExit, LinkExit, ClearExit, ReleaseExit, Retract, Task}
 use Rattle.machine.specs.Run.{Config}
 use Rattle.machine.specs.Invariant.{inHead, inAnnouncement, headValue, content, OwnSaved}
-use Rattle.machine.specs.Potential.{row, Work, Elsewhere, Linking, Passing, Applying, Approaching, Marking, Finishing, HeadWord, AnnouncementWord, one, stale, holds, unanswered, but, linking, counts, owes, atHead, headLoad, debts, headPart, markPart, announcementAside, lasts, answeredPotential}
-use Rattle.machine.proofs.Update.{clash, update-same, update-other, either-no}
+use Rattle.machine.specs.Potential.{row, Work, Elsewhere, Linking, Passing, Applying, Approaching, Marking, Finishing, HeadWord, AnnouncementWord, one, stale, holds, unanswered, linking, counts, owes, atHead, headLoad, debts, headPart, markPart, announcementAside, lasts, answeredPotential}
 use Rattle.machine.proofs.Own.{value-found, mark-found}
-use Rattle.machine.proofs.Readings.{one-le, pick-le, pick-mono, lost-word}
+use Rattle.machine.proofs.Readings.{lost-word}
 use Rattle.machine.proofs.Class.{Class}
 use Rattle.machine.proofs.Ordinary.{stale-most, Ordinary, Fate, rewritten, kept}
 use Rattle.machine.proofs.Rows.{row-bounds}
-use Rattle.machine.proofs.Sums.{but-change, but-others, but-most}
 use Rattle.machine.proofs.Debts.{owes-most}
 use Rattle.machine.proofs.Course.{held-own}
 use Rattle.machine.proofs.Waiting.{with, Pays, share, ranks-most, ranks-fall}
@@ -70,7 +74,7 @@ module _ (n : ℕ) (c c′ : Config) (p : ℕ) (y : Less n c c′ p) where
 
   -- The compared head is backed by holding it, or by the own mark in it.
   word : (x : Cell HeadValue) → (m .head ≡ x → atHead m p ≡ true) → headPart n c′ p + stale (c′ .memory) (HeadWord x) ≤ headPart n c p + stale m (HeadWord x)
-  word x f = due-word 3 x (y .head) (omega arith) (omega (arith, one-le (not (decided (head-dec (c′ .memory .head) x))))) (λ e. ap (λ k. 3 * k) (lost-word (head-dec (m .head) x) (λ z. clash (f z) e)))
+  word x f = due-word 3 x (y .head) (omega arith) (omega (arith, pick-le (not (decided (head-dec (c′ .memory .head) x))) 1)) (λ e. ap (λ k. 3 * k) (lost-word (head-dec (m .head) x) (λ z. clash (f z) e)))
 
   linked-word : (x : Cell HeadValue) → (m .head ≡ x → inHead m p ≡ true) → headPart n c′ p + stale (c′ .memory) (HeadWord x) ≤ headPart n c p + stale m (HeadWord x)
   linked-word x f = word x (λ z. rw (f z) refl)
@@ -164,7 +168,7 @@ module _ (n i : ℕ) (lt : i < n) (c : Config) (m′ : Memory) (t′ : Task) (p 
   pub head-stays : {s : Class} → i ≢ p → Ordinary (c .memory) m′ i s → Pays i c m′ t′ s → HeadDue n c c′ p
   head-stays {s} d o r =
       goes-on (s .cost (inHead (c .memory) i)) (λ t. o .marks p (λ z. d (sym z)) t || holds p (o .value t))
-      (rw (either-no (ℕ-discrete i p) 0 (s .cost (inHead (c .memory) i)) d) at (load-stays o r))
+      (rw (if-neg (ℕ-discrete i p) d 0 (s .cost (inHead (c .memory) i))) at (load-stays o r))
       (λ h. o .words (HeadWord h))
 
   -- What the others owe to task t, but for p.
@@ -183,7 +187,7 @@ module _ (n i : ℕ) (lt : i < n) (c : Config) (m′ : Memory) (t′ : Task) (p 
   marks-stay t d (rewritten w f) g h = over (f p)
   marks-stay {s} t d (kept w v a f) g h =
       goes-on (5 * one (s .marks i t)) (a p (λ z. d (sym z)))
-      (omega (arith, rw (either-no (ℕ-discrete i p) 0 (one (s .marks i t)) d) at (debts-fall t (one (s .marks i t)) (λ x k u. g x k u v (a x k)) (omega (arith, rw w at h)))))
+      (omega (arith, rw (if-neg (ℕ-discrete i p) d 0 (one (s .marks i t))) at (debts-fall t (one (s .marks i t)) (λ x k u. g x k u v (a x k)) (omega (arith, rw w at h)))))
       f
 
   -- Its own announcement part stays while the cells do.

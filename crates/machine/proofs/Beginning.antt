@@ -4,6 +4,7 @@ use mathlib.Core.Bool.{Bool, true, false}
 use mathlib.Core.Logic.{_≢_}
 use Prim.Native.Nat.{ℕ, _≤_, _<_}
 use native.Mathlib.Omega.{arith}
+use Rattle.laws.proofs.Update.{update-same, update-other}
 use Rattle.machine.specs.Object.{Object}
 use Rattle.machine.specs.Memory.{Content, Empty, Op, Resp, Memory}
 use Rattle.machine.specs.Machine.{Idle, Task}
@@ -11,7 +12,6 @@ use Rattle.machine.specs.Kind.{kind}
 use Rattle.machine.specs.Run.{Config, firstPhase, begun}
 use Rattle.machine.specs.Invariant.{inHead, headValue, content, Safe}
 use Rattle.machine.specs.Potential.{Row, row, answered, held, dist, owes, bound, waitingPotential, announcedPotential, potentialBy, potential}
-use Rattle.machine.proofs.Update.{update-same, update-other}
 use Rattle.machine.proofs.Effect.{Unchanged}
 use Rattle.machine.proofs.Class.{class}
 use Rattle.machine.proofs.Ordinary.{ordinary, unchanged, untouched}

@@ -1,8 +1,10 @@
 -- The book of a step between the entries and the booking: a task that goes on stands as before, and one that ends has its response.
 use mathlib.Core.Path.{_≡_, refl, sym, _∙_, ap}
-use mathlib.Core.Bool.{true, false}
+use mathlib.Core.Bool.{false}
 use mathlib.Core.Logic.{_≢_}
 use Prim.Native.Nat.{ℕ, _<_}
+use Rattle.laws.proofs.Tests.{clash}
+use Rattle.laws.proofs.Update.{update-same, everywhere}
 use Rattle.machine.specs.Object.{Object}
 use Rattle.machine.specs.Lawful.{Opens}
 use Rattle.machine.specs.Memory.{Content, Cell, Memory, stateOf}
@@ -13,14 +15,13 @@ use Rattle.machine.specs.Invariant.{headValue, content, Safe}
 use Rattle.machine.specs.Form.{OperationFormed, Formed}
 use Rattle.machine.specs.Book.{Book, Done, Entering, none}
 use Rattle.machine.specs.Keeping.{enter, enterBy}
-use Rattle.machine.proofs.Update.{clash, update-same}
 use Rattle.machine.proofs.Effect.{Effect, Unchanged, Linked, Released, Cleared, Retracted, Applied, LinkedAt, ReleasedAt, HandedOver, Announced, effect, Allowed}
 use Rattle.machine.proofs.Moved.{Steps}
 use Rattle.machine.proofs.Own.{allowed}
 use Rattle.machine.proofs.Formed.{state-good}
 use Rattle.machine.proofs.Related.{Waits, byContent, standsAt, Paged, Related, shows-same, page-by, Aside, stands-aside, not-held}
 use Rattle.machine.proofs.Progress.{Onward, Progress, idles, reads, announces, applies, continues, retracts, progress, enters-reader, enters-applied}
-use Rattle.machine.proofs.Entered.{withCells, every-task, enter-legal, enter-other, EnteredAs, enters-as, page-aside, related-applied}
+use Rattle.machine.proofs.Entered.{withCells, enter-legal, enter-other, EnteredAs, enters-as, page-aside, related-applied}
 
 -- The step of task i goes on to the phase f: over the new cells m every page is right by the old records, and the task
 -- stands the same by its new phase.
@@ -83,7 +84,7 @@ module _ (b : Object) (c : Config) (k : Book) (i : ℕ) where
 
     -- An announced operation waits as before.
     between-announces : (o : ℕ) → c .task i .phase ≡ Announce → Allowed b (c .memory) i (Announced o) → Runs c (effect i (Announced o) (c .memory)) i k Poll
-    between-announces o z u = record { related = record { state = rel .state; page = every-task _ i own (page-aside b c k i rel (Announced o) u) }; stands = waits ∙ sym opening }
+    between-announces o z u = record { related = record { state = rel .state; page = everywhere _ i own (page-aside b c k i rel (Announced o) u) }; stands = waits ∙ sym opening }
       where
         m : Memory
         m = effect i (Announced o) (c .memory)

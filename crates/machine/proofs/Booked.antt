@@ -1,14 +1,16 @@
 -- Every call is booked: its entries and its booking are a legal step of the plain book, and the book stays related to the configuration.
 use mathlib.Core.Path.{_≡_, refl, sym, _∙_, ap}
 use mathlib.Core.Bool.{Bool, true, false, cond}
-use mathlib.Core.Logic.{_≢_}
+use mathlib.Core.Logic.{_≢_, ite}
 use Prim.Native.Nat.{ℕ, suc, _<_}
 use native.Mathlib.Omega.{arith}
 use native.Mathlib.Decide.{ℕ-discrete}
 use borrow.Author.Tests.{lt-ltb, le-ltb}
+use Rattle.laws.specs.Update.{update}
+use Rattle.laws.proofs.Tests.{clash, never}
+use Rattle.laws.proofs.Update.{update-all, update-same, update-other}
 use Rattle.machine.specs.Object.{Object}
 use Rattle.machine.specs.Memory.{HeadValue, Free, Held, Content, Empty, Op, Resp, Memory}
-use Rattle.machine.specs.Update.{either, update}
 use Rattle.machine.specs.Machine.{Phase, Idle, Task, Next, Go, Turn, End, advance}
 use Rattle.machine.specs.Kind.{Kind, Off, Reading, Opening, Looping, Exiting, Retracting, kind, off}
 use Rattle.machine.specs.Run.{Config, Served, firstPhase, answerOf, serve}
@@ -18,7 +20,6 @@ use Rattle.machine.specs.Invariant.{Safe}
 use Rattle.machine.specs.Form.{Formed}
 use Rattle.machine.specs.Book.{Book, Page, Waiting, Done, turned, Entering, none, Booking, begun, begin-task, begin-operation, begin-pending, running-waiting, running-done, ended, step-task, step-idle, Legal}
 use Rattle.machine.specs.Keeping.{enterBy, enterFor, counted, booked, keep}
-use Rattle.machine.proofs.Update.{clash, update-all, update-same, update-other}
 use Rattle.machine.proofs.Effect.{Effect, effect}
 use Rattle.machine.proofs.Moved.{moved, Steps}
 use Rattle.machine.proofs.Calls.{Serving, begins, moves, serving, begin-task as task-unknown, begin-operation as operation-unknown, begin-pending as still-pending, step-task as no-task, step-idle as no-operation}
@@ -38,7 +39,7 @@ head-present : (h : HeadValue) (t : ℕ) → present (byHead h t) ≡ true
 head-present (Free q) t = refl
 head-present (Held q j r) t = go (ℕ-discrete j t)
   where
-    go : (d : Dec (j ≡ t)) → present (either d (Answered r) Waits) ≡ true
+    go : (d : Dec (j ≡ t)) → present (ite d (Answered r) Waits) ≡ true
     go (yes _) = refl
     go (no _) = refl
 
@@ -54,8 +55,8 @@ pending-present (Retracting v) a h t p = refl
 
 present-page : (s : Standing) (t o c : ℕ) (p : Page) → present s ≡ true → Shows s t o c p → p ≡ Page.Idle → ⊥
 present-page Out t o c p n y e = clash n refl
-present-page Waits t o c p n (place, y) e = let z : _≡_ {A = ℕ} 0 1 = cc in omega arith
-present-page (Answered r) t o c p n y e = let z : _≡_ {A = ℕ} 0 1 = cc in omega arith
+present-page Waits t o c p n (place, y) e = never cc
+present-page (Answered r) t o c p n y e = never cc
 
 -- One more step on a page.
 shows-counted : (s : Standing) (t o c : ℕ) (p : Page) → Shows s t o c p → Shows s t o (suc c) (counted p)

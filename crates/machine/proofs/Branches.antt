@@ -1,20 +1,21 @@
 -- Every step takes one of the branches.
 use mathlib.Core.Path.{_≡_, refl, _∙_, ap}
 use mathlib.Core.Bool.{Bool, true, false, cond}
-use mathlib.Core.Logic.{_≢_}
+use mathlib.Core.Logic.{_≢_, ite}
 use Prim.Native.Nat.{ℕ}
-use native.Mathlib.Omega.{arith}
 use native.Mathlib.Decide.{ℕ-discrete}
+use Rattle.laws.specs.Update.{update}
+use Rattle.laws.specs.Decision.{decided}
+use Rattle.laws.proofs.Tests.{never}
 use Rattle.machine.specs.Object.{Object}
 use Rattle.machine.specs.Memory.{HeadValue, Free, Held, Content, Empty, Op, Resp, Cell, Memory, head-dec, announcement-dec}
-use Rattle.machine.specs.Update.{either, update}
-use Rattle.machine.specs.Machine.{Phase, Idle, ReadOnly, Announce, Poll, LoadHead, LinkHead, LoadPriority, LoadOwn, Apply, ReloadApply, LoadHelped, LinkHelped, Validate, HandOver, ReloadHandOver, Release, ReloadRelease, ClearHead, ReloadClear, LoadExit, LinkExit, ClearExit, ReleaseExit, Retract, linked, released, cleared, plan, result, perform, after, decided, Next, afterPoll, afterLink, afterPriority, afterOwn, afterLinkHelped, afterExit}
+use Rattle.machine.specs.Machine.{Phase, Idle, ReadOnly, Announce, Poll, LoadHead, LinkHead, LoadPriority, LoadOwn, Apply, ReloadApply, LoadHelped, LinkHelped, Validate, HandOver, ReloadHandOver, Release, ReloadRelease, ClearHead, ReloadClear, LoadExit, LinkExit, ClearExit, ReleaseExit, Retract, linked, released, cleared, plan, result, perform, after, Next, afterPoll, afterLink, afterPriority, afterOwn, afterLinkHelped, afterExit}
 use Rattle.machine.specs.Invariant.{inHead, inAnnouncement, headValue, content, NotHolder}
 use Rattle.machine.proofs.Effect.{Effect, Unchanged, Linked, Released, Cleared, Retracted, Applied, LinkedAt, ReleasedAt, HandedOver, Announced, effect, withHead, withAnnouncement}
 use Rattle.machine.proofs.Branch.{Branch, stay-idle, read-only, announce, poll-response, poll-waits, load-head, link-free, link-held, link-fails, priority-waits, priority-rests, own-waits, own-response, own-empty, apply, apply-fails, reload-apply, reload-apply-lost, load-helped, link-helped, link-rested, link-helped-fails, validate, validate-fails, hand-over, hand-over-fails, reload-hand-over, reload-hand-over-lost, release, release-fails, reload-release, reload-release-lost, clear, clear-fails, reload-clear, reload-clear-lost, exit-clear, exit-release, exit-link, exit-retract, link-exit, link-exit-fails, clear-exit, clear-exit-fails, release-exit, release-exit-fails, retract}
 
 pub free-not : {v : HeadValue} {q i : ℕ} → v ≡ Free q → NotHolder v i
-free-not e q′ r f = let z : _≡_ {A = ℕ} 0 1 = cc in omega arith
+free-not e q′ r f = never cc
 
 pub held-not : {v : HeadValue} {q j r i : ℕ} → v ≡ Held q j r → j ≢ i → NotHolder v i
 held-not e n q′ r′ f = n cc
@@ -40,14 +41,14 @@ module _ (b : Object) (m : Memory) (i p x : ℕ) where
   -- A swap of the head, and one of an announcement.
   swap-head : {f : Phase} {h h′ : Cell HeadValue} {y z : Next} (d : Dec (m .head ≡ h)) (e : Effect)
       → (m .head ≡ h → Branch b m i p x f e y) → (m .head ≡ h → withHead m h′ ≡ effect i e m)
-      → ((m .head ≡ h → ⊥) → Branch b m i p x f Unchanged z) → Takes f (withHead m (either d h′ (m .head))) (cond (decided d) y z)
+      → ((m .head ≡ h → ⊥) → Branch b m i p x f Unchanged z) → Takes f (withHead m (ite d h′ (m .head))) (cond (decided d) y z)
   swap-head (yes q) e g k n = record { change = e; branch = g q; cells = k q }
   swap-head (no q) e g k n = same (n q)
 
   swap-announcement : {f : Phase} {j : ℕ} {a : Cell Content} {y z : Next} (d : Dec (m .announcement j ≡ a)) (a′ : Cell Content) (e : Effect)
       → (m .announcement j ≡ a → Branch b m i p x f e y) → (m .announcement j ≡ a → withAnnouncement m j a′ ≡ effect i e m)
       → ((m .announcement j ≡ a → ⊥) → Branch b m i p x f Unchanged z)
-      → Takes f (record { head = m .head; announcement = either d (update (m .announcement) j a′) (m .announcement) }) (cond (decided d) y z)
+      → Takes f (record { head = m .head; announcement = ite d (update (m .announcement) j a′) (m .announcement) }) (cond (decided d) y z)
   swap-announcement (yes q) a′ e g k n = record { change = e; branch = g q; cells = k q }
   swap-announcement (no q) a′ e g k n = same (n q)
 
@@ -75,7 +76,7 @@ module _ (b : Object) (m : Memory) (i p x : ℕ) where
   by-link-helped h j a e (Op o) f = link-helped e f
   by-link-helped h j a e (Resp v) f = link-rested e (λ u. (rw f at u))
 
-  by-holder : {f : Phase} {y z : Next} {j : ℕ} (d : Dec (j ≡ i)) → (j ≡ i → Branch b m i p x f Unchanged y) → (j ≢ i → Branch b m i p x f Unchanged z) → Branch b m i p x f Unchanged (either d y z)
+  by-holder : {f : Phase} {y z : Next} {j : ℕ} (d : Dec (j ≡ i)) → (j ≡ i → Branch b m i p x f Unchanged y) → (j ≢ i → Branch b m i p x f Unchanged z) → Branch b m i p x f Unchanged (ite d y z)
   by-holder (yes e) g h = g e
   by-holder (no n) g h = h n
 

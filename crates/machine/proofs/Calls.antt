@@ -1,10 +1,11 @@
 -- What a call does, by its tests: one case for each outcome, with the facts that the tests found.
 use mathlib.Core.Path.{_≡_, refl}
-use mathlib.Core.Bool.{Bool, true, false, cond}
+use mathlib.Core.Bool.{true, false}
 use Prim.Native.Nat.{ℕ, _<_}
 use native.Mathlib.Omega.{arith}
 use lib.Dec.{ltb}
 use borrow.Author.Tests.{ltb-true, ltb-false}
+use Rattle.laws.proofs.Choice.{choice-by}
 use Rattle.machine.specs.Object.{Object}
 use Rattle.machine.specs.Machine.{Phase, Idle, ReadOnly, Announce, Poll, LoadHead, LinkHead, LoadPriority, LoadOwn, Apply, ReloadApply, LoadHelped, LinkHelped, Validate, HandOver, ReloadHandOver, Release, ReloadRelease, ClearHead, ReloadClear, LoadExit, LinkExit, ClearExit, ReleaseExit, Retract, Next}
 use Rattle.machine.specs.Kind.{kind, off}
@@ -50,11 +51,6 @@ pub data Serving (b : Object) (n : ℕ) (c : Config) : Call → Served → Type 
   step-task : {i : ℕ} → (i < n → ⊥) → Serving b n c (Step i) (unserved c 7)
   step-idle : {i : ℕ} → i < n → c .task i .phase ≡ Idle → Serving b n c (Step i) (unserved c 10)
 
--- What holds of either branch holds of the picked one.
-pub pick-case : {A : Type 0} (P : A → Type 0) (t : Bool) {x y : A} → (t ≡ true → P x) → (t ≡ false → P y) → P (cond t x y)
-pick-case P true f g = f refl
-pick-case P false f g = g refl
-
 not-below : (i n : ℕ) → ltb i n ≡ false → i < n → ⊥
 not-below i n e h = omega (arith, ltb-false i n e)
 
@@ -67,16 +63,16 @@ module _ (b : Object) (n : ℕ) (c : Config) where
   pub serving : (x : Call) → Serving b n c x (serve b n x c)
   unfolding begin step
   serving (Begin i o) =
-      pick-case (Serving b n c (Begin i o)) (ltb i n)
-      (λ h. pick-case (Serving b n c (Begin i o)) (ltb o (b .operations))
-      (λ k. pick-case (Serving b n c (Begin i o)) (off (kind (c .task i .phase)))
+      choice-by (Serving b n c (Begin i o)) (ltb i n)
+      (λ h. choice-by (Serving b n c (Begin i o)) (ltb o (b .operations))
+      (λ k. choice-by (Serving b n c (Begin i o)) (off (kind (c .task i .phase)))
       (λ e. begins (ltb-true i n h) (ltb-true o _ k) (off-idle _ e))
       (begin-pending (ltb-true i n h) (ltb-true o _ k)))
       (λ k. begin-operation (ltb-true i n h) (not-below o _ k)))
       (λ h. begin-task (not-below i n h))
   serving (Step i) =
-      pick-case (Serving b n c (Step i)) (ltb i n)
-      (λ h. pick-case (Serving b n c (Step i)) (off (kind (c .task i .phase)))
+      choice-by (Serving b n c (Step i)) (ltb i n)
+      (λ h. choice-by (Serving b n c (Step i)) (off (kind (c .task i .phase)))
       (λ e. step-idle (ltb-true i n h) (off-idle _ e))
       (serving-step i (ltb-true i n h)))
       (λ h. step-task (not-below i n h))

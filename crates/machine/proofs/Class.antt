@@ -2,7 +2,7 @@
 use mathlib.Core.Bool.{Bool, true, false, cond}
 use Prim.Native.Nat.{ℕ, _+_}
 use native.Mathlib.Decide.{ℕ-discrete}
-use Rattle.machine.specs.Machine.{decided}
+use Rattle.laws.specs.Decision.{decided}
 use Rattle.machine.specs.Potential.{always, headWeight, announcementWeight, lostWeight}
 use Rattle.machine.proofs.Effect.{Effect, Unchanged, Linked, Released, Cleared, Retracted, Applied, LinkedAt, ReleasedAt, HandedOver, Announced}
 

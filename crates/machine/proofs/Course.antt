@@ -4,18 +4,21 @@ use mathlib.Core.Bool.{Bool, true, false, _&&_, _||_, not, cond}
 use Prim.Native.Nat.{ℕ, _+_, _*_, _≤_}
 use native.Mathlib.Decide.{ℕ-discrete}
 use native.Mathlib.Omega.{arith}
+use Rattle.laws.specs.Decision.{decided}
+use Rattle.laws.proofs.Update.{update-same}
+use Rattle.laws.proofs.Decision.{decided-yes}
+use Rattle.laws.proofs.Choice.{pick-le}
 use Rattle.cells.proofs.MarkLaws.{has-add}
 use Rattle.machine.specs.Object.{Object}
 use Rattle.machine.specs.Memory.{HeadValue, Held, Content, Cell, Memory, head-dec, announcement-dec}
-use Rattle.machine.specs.Machine.{Phase, Next, phaseOf, decided, linked}
+use Rattle.machine.specs.Machine.{Phase, Next, phaseOf, linked}
 use Rattle.machine.specs.Kind.{Kind, Off, Reading, Opening, Looping, Exiting, Retracting, kind}
 use Rattle.machine.specs.Invariant.{inHead, headValue, content, IsResp, HeldBy, TaskSafe}
 use Rattle.machine.specs.Potential.{Row, row, HeadWord, AnnouncementWord, one, stale, holds, placeOf, atHead, lasts}
-use Rattle.machine.proofs.Update.{update-same}
 use Rattle.machine.proofs.Effect.{Effect, Unchanged, Retracted, LinkedAt, Announced, effect}
 use Rattle.machine.proofs.Branch.{Branch, stay-idle, read-only, announce, poll-response, poll-waits, load-head, link-free, link-held, link-fails, priority-waits, priority-rests, own-waits, own-response, own-empty, apply, apply-fails, reload-apply, reload-apply-lost, load-helped, link-helped, link-rested, link-helped-fails, validate, validate-fails, hand-over, hand-over-fails, reload-hand-over, reload-hand-over-lost, release, release-fails, reload-release, reload-release-lost, clear, clear-fails, reload-clear, reload-clear-lost, exit-clear, exit-release, exit-link, exit-retract, link-exit, link-exit-fails, clear-exit, clear-exit-fails, release-exit, release-exit-fails, retract}
 use Rattle.machine.proofs.Own.{value-found, not-empty}
-use Rattle.machine.proofs.Readings.{one-le, decided-yes, found-word, lost-word}
+use Rattle.machine.proofs.Readings.{found-word, lost-word}
 use Rattle.machine.proofs.Class.{class}
 use Rattle.machine.proofs.Ordinary.{stale-most}
 
@@ -100,7 +103,7 @@ module _ (b : Object) (m : Memory) (i k o n : ℕ) (h h′ : ℕ) (g g′ : ℕ 
   course (link-helped-fails {j = j} {a = a} e) s l u = works (omega (arith, lost-word (announcement-dec (m .announcement j) a) e))
   course (validate {j = j} e) s l u = works (omega (arith, u refl j))
   course (validate-fails {j = j} e) s l u = works (omega (arith, u refl j))
-  course (hand-over {h = x} {j = j} e) s l u = works (omega (arith, stale-most m (HeadWord x), one-le (decided (ℕ-discrete j i))))
+  course (hand-over {h = x} {j = j} e) s l u = works (omega (arith, stale-most m (HeadWord x), pick-le (decided (ℕ-discrete j i)) 1))
   course (hand-over-fails {j = j} {a = a} e) s l u = works (omega (arith, u refl j, lost-word (announcement-dec (m .announcement j) a) e))
   course (reload-hand-over {j = j} e) s l u = works (omega (arith, u refl j, there j))
   course (reload-hand-over-lost {h = x} e) s l u = works (omega (arith, stale-most m (HeadWord x)))

@@ -5,31 +5,28 @@ use mathlib.Core.Logic.{_≢_}
 use Prim.Native.Nat.{ℕ, _+_, _*_, _≤_}
 use native.Mathlib.Decide.{ℕ-discrete}
 use native.Mathlib.Omega.{arith}
+use Rattle.laws.specs.Decision.{decided}
+use Rattle.laws.proofs.Update.{update-other}
+use Rattle.laws.proofs.Choice.{pick-le, skip-le}
 use Rattle.cells.specs.Marks.{has}
 use Rattle.machine.specs.Object.{Object}
 use Rattle.machine.specs.Memory.{Content, Cell, Memory}
-use Rattle.machine.specs.Machine.{decided}
 use Rattle.machine.specs.Invariant.{inHead, inAnnouncement, headValue, content}
 use Rattle.machine.specs.Potential.{Work, one, waiting, holds, approaches, worksFor, owed, owes}
-use Rattle.machine.proofs.Update.{update-other}
 use Rattle.machine.proofs.Effect.{Effect, Cleared, Applied, effect, withAnnouncement, Allowed}
 use Rattle.machine.proofs.Own.{value-found}
-use Rattle.machine.proofs.Readings.{one-le, pick-le, waiting-not, resp-not-op}
+use Rattle.machine.proofs.Readings.{waiting-not, resp-not-op}
 use Rattle.machine.proofs.Ordinary.{Sort, ordinary, clears, applies, hands-over}
-
-either-le : (x : Bool) (a : ℕ) → cond x 0 a ≤ a
-either-le true a = omega arith
-either-le false a = omega arith
 
 first-le : (x y : Bool) → cond x 2 (one y) ≤ 2
 first-le true y = omega arith
-first-le false y = omega (arith, one-le y)
+first-le false y = omega (arith, pick-le y 1)
 
 pub owed-most : (m : Memory) (t : ℕ) → owed m t ≤ 2
 owed-most m t = pick-le (waiting (content m t) || holds t (headValue m)) 2
 
 pub owes-most : (m : Memory) (x t : ℕ) (w : Work) → owes m x t w ≤ 4
-owes-most m x t w = omega (arith, first-le (approaches t w) (inAnnouncement m x t), either-le (worksFor t w && (holds t (headValue m) && inHead m x)) (owed m t), owed-most m t)
+owes-most m x t w = omega (arith, first-le (approaches t w) (inAnnouncement m x t), skip-le (worksFor t w && (holds t (headValue m) && inHead m x)) (owed m t), owed-most m t)
 
 -- ---- By the task itself; d decides whether its target is t
 
@@ -41,7 +38,7 @@ link-owes (no n) a w = omega arith
 
 -- It marks the announcement of its target; a, a′: its mark there, before and after.
 pub mark-owes : {P : Type 0} (d : Dec P) (a a′ : Bool) (s : ℕ) → ((P → ⊥) → a′ ≡ a) → one a′ + s + one (decided d) ≤ cond (decided d) 2 (one a) + s
-mark-owes (yes e) a a′ s f = omega (arith, one-le a′)
+mark-owes (yes e) a a′ s f = omega (arith, pick-le a′ 1)
 mark-owes (no n) a a′ s f = rw (f n) (omega arith)
 
 -- It doesn't succeed, and leaves.
@@ -91,7 +88,7 @@ module _ (b : Object) (m : Memory) (i x t : ℕ) (w w′ : Work) (same : approac
   cleared-owes (q, j, r, h, y) =
       rw (same, h) (omega (
         arith,
-        either-le (worksFor t w′ && false) (cond (waiting (content m t) || false) 2 0),
+        skip-le (worksFor t w′ && false) (cond (waiting (content m t) || false) 2 0),
         clear-owed (ℕ-discrete j t) (worksFor t w) (inHead m x) (waiting (content m t)) (λ e. waiting-not (content m t) (resp-not-op (content m t) (rw e at y))),
       ))
 
@@ -99,7 +96,7 @@ module _ (b : Object) (m : Memory) (i x t : ℕ) (w w′ : Work) (same : approac
   applied-owes q j r (c, o, h, y, _, _) =
       rw (same, h) (omega (
         arith,
-        either-le (worksFor t w′ && (decided (ℕ-discrete j t) && has x 0)) (cond (waiting (content m t) || decided (ℕ-discrete j t)) 2 0),
+        skip-le (worksFor t w′ && (decided (ℕ-discrete j t) && has x 0)) (cond (waiting (content m t) || decided (ℕ-discrete j t)) 2 0),
         apply-owed (ℕ-discrete j t) (worksFor t w) (waiting (content m t)) (λ e. rw (← e, y) refl),
       ))
 

@@ -5,6 +5,7 @@ use Prim.Native.Nat.{ℕ, _≤_, _<_}
 use native.Mathlib.Nat.{zero-add}
 use native.Mathlib.Omega.{arith}
 use lib.ListN.{length}
+use Rattle.laws.proofs.Tests.{clash}
 use Rattle.machine.specs.Object.{Object}
 use Rattle.machine.specs.Lawful.{Opens}
 use Rattle.machine.specs.Memory.{Memory, image}
@@ -20,7 +21,6 @@ use Rattle.machine.proofs.Keeps.{history-append, book-grows, sound, run
 use Rattle.machine.proofs.Rest.{rest-image}
 use Rattle.machine.proofs.OwnSteps.{own-record, next-step}
 use Rattle.machine.proofs.Pending.{pending-is}
-use Rattle.machine.proofs.Update.{clash}
 use Rattle.machine.proofs.WaitFree.{pending-steps}
 use Rattle.machine.specs.Keeping.{bookOf}
 

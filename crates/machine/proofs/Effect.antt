@@ -1,9 +1,9 @@
 -- The ten ways in which a step changes the cells, and when each is allowed. Everybody else cares about the effect alone.
 use mathlib.Core.Path.{_≡_}
 use Prim.Native.Nat.{ℕ}
+use Rattle.laws.specs.Update.{update}
 use Rattle.machine.specs.Object.{Object}
 use Rattle.machine.specs.Memory.{HeadValue, Free, Held, Content, Empty, Op, Resp, Cell, Memory, unmarked}
-use Rattle.machine.specs.Update.{update}
 use Rattle.machine.specs.Machine.{linked, released, cleared}
 use Rattle.machine.specs.Invariant.{headValue, content, IsResp, NotHolder}
 

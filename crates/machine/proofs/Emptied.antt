@@ -1,9 +1,11 @@
 -- The step that empties an announcement is the one that ends a changing operation, at every point of a run and both ways.
 use mathlib.Core.Path.{_≡_, refl, sym, _∙_, ap, subst}
 use mathlib.Core.Bool.{true, false}
-use mathlib.Core.List.{List, [], _∷_, _++_}
+use mathlib.Core.List.{[], _∷_, _++_}
 use Prim.Native.Nat.{ℕ, suc}
 use native.Mathlib.Decide.{ℕ-discrete}
+use Rattle.laws.proofs.Tests.{clash}
+use Rattle.laws.proofs.Update.{update-other}
 use Rattle.machine.specs.Object.{Object}
 use Rattle.machine.specs.Lawful.{Opens}
 use Rattle.machine.specs.Memory.{Content, Empty, Memory}
@@ -15,7 +17,6 @@ use Rattle.machine.specs.History.{Pends}
 use Rattle.machine.specs.Invariant.{content, OwnContent, Safe}
 use Rattle.machine.specs.Form.{OperationFormed, Formed}
 use Rattle.machine.specs.Ending.{EndsChanging, Emptyings}
-use Rattle.machine.proofs.Update.{clash, update-other}
 use Rattle.machine.proofs.Effect.{Effect, effect}
 use Rattle.machine.proofs.Calls.{Serving, begins, begin-task, begin-operation, begin-pending, moves, step-task, step-idle, serving}
 use Rattle.machine.proofs.Own.{own-safe}

@@ -1,8 +1,9 @@
 -- The entries before a step: they are legal, and the book that they lead to shows over the changed cells where the tasks stand.
-use mathlib.Core.Path.{_≡_, refl, sym, _∙_, ap, subst}
-use mathlib.Core.Logic.{_≢_}
+use mathlib.Core.Path.{_≡_, refl, sym, _∙_, ap}
+use mathlib.Core.Logic.{_≢_, if-pos}
 use Prim.Native.Nat.{ℕ}
 use native.Mathlib.Decide.{ℕ-discrete}
+use Rattle.laws.proofs.Update.{update-same, update-other, everywhere}
 use Rattle.machine.specs.Object.{Object}
 use Rattle.machine.specs.Memory.{HeadValue, Held, Content, Op, Memory, stateOf}
 use Rattle.machine.specs.Kind.{Kind, Off, Reading, Opening, Looping, Exiting, Retracting, kind}
@@ -10,21 +11,12 @@ use Rattle.machine.specs.Run.{Config}
 use Rattle.machine.specs.Invariant.{headValue, content, OwnContent, Safe}
 use Rattle.machine.specs.Book.{Operation, Book, Page, Waiting, Done, entered, Entering, none, enter as enters}
 use Rattle.machine.specs.Keeping.{enter, enterPage}
-use Rattle.machine.proofs.Update.{update-same, update-other, either-yes}
 use Rattle.machine.proofs.Effect.{Effect, Applied, effect, Allowed}
 use Rattle.machine.proofs.Related.{Waits, Answered, byHead, byContent, standing, Shows, Paged, Related, shows-same, Aside, stands-aside}
 
 -- The configuration with other cells.
 abbrev pub withCells : Config → Memory → Config
 withCells c m = record { memory = m; task = c .task }
-
--- What holds of task j, and of every other task, holds of all.
-pub every-task : (P : ℕ → Type 0) (j : ℕ) → P j → ((t : ℕ) → j ≢ t → P t) → (t : ℕ) → P t
-every-task P j own others t = go (ℕ-discrete j t)
-  where
-    go : Dec (j ≡ t) → P t
-    go (yes e) = subst P e own
-    go (no n) = others t n
 
 module _ (b : Object) where
   -- A task is entered only if it waits.
@@ -75,7 +67,7 @@ module _ (b : Object) (c : Config) (k : Book) (i : ℕ) (rel : Related c k) wher
 
   -- The operation of task j is applied: the task is entered.
   pub related-applied : Safe c → (q j r : ℕ) → Allowed b (c .memory) i (Applied q j r) → Related (withCells c (effect i (Applied q j r) (c .memory))) (enter b j k)
-  related-applied safe q j r (a, x, free, op, next, outcome) = record { state = done .state ∙ reached; page = every-task _ j own others }
+  related-applied safe q j r (a, x, free, op, next, outcome) = record { state = done .state ∙ reached; page = everywhere _ j own others }
     where
       m : Memory
       m = c .memory
@@ -99,7 +91,7 @@ module _ (b : Object) (c : Config) (k : Book) (i : ℕ) (rel : Related c k) wher
       reached = rw (base, ← work .1) (sym next)
 
       own : Paged (effect i (Applied q j r) m) j (c .task j) (enter b j k .page j)
-      own = shows-same (sym (stood (Held q j r) ∙ either-yes (ℕ-discrete j j) (Answered r) Waits refl)) j o (c .task j .steps) (enter b j k .page j) (done .page ∙ rw (base, ← work .1, ← outcome) refl)
+      own = shows-same (sym (stood (Held q j r) ∙ if-pos (ℕ-discrete j j) refl (Answered r) Waits)) j o (c .task j .steps) (enter b j k .page j) (done .page ∙ rw (base, ← work .1, ← outcome) refl)
 
       others : (t : ℕ) → j ≢ t → Paged (effect i (Applied q j r) m) t (c .task t) (enter b j k .page t)
       others t d = rw (enter-other b j t k d) (page-aside (Applied q j r) (a, x, free, op, next, outcome) t d)

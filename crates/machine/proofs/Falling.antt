@@ -1,10 +1,14 @@
 -- A step lowers the potential of its own operation, and raises that of no other.
 use mathlib.Core.Path.{_≡_, refl, sym, _∙_, ap}
 use mathlib.Core.Bool.{Bool, true, false, _&&_, _||_, not, cond}
-use mathlib.Core.Logic.{_≢_}
+use mathlib.Core.Logic.{_≢_, if-pos}
 use Prim.Native.Nat.{ℕ, _+_, _*_, _≤_, _<_}
 use native.Mathlib.Decide.{ℕ-discrete}
 use native.Mathlib.Omega.{arith}
+use Rattle.laws.proofs.Tests.{clash, never}
+use Rattle.laws.proofs.Update.{update-same, update-other}
+use Rattle.laws.proofs.Sums.{but-at-most}
+use Rattle.laws.proofs.Choice.{pick-le}
 use Rattle.machine.specs.Object.{Object}
 use Rattle.machine.specs.Memory.{Free, Held, Content, Empty, Op, Resp, Memory, stateOf}
 use Rattle.machine.specs.Machine.{Task, Next, phaseOf, turns, advance}
@@ -12,16 +16,13 @@ use Rattle.machine.specs.Kind.{Kind, Off, Reading, Opening, Looping, Exi
 use Rattle.machine.specs.Run.{Config}
 use Rattle.machine.specs.Invariant.{inHead, headValue, content, IsResp, OwnContent, Safe}
 use Rattle.machine.specs.Potential.{row, one, answered, held, holds, dists, placeOf, waitingPotential, atHead, headLoad, headPart, markPart, lasts, answeredPotential, announcedPotential, potentialBy, potential}
-use Rattle.machine.proofs.Update.{clash, update-same, update-other, either-yes}
 use Rattle.machine.proofs.Effect.{Effect, Applied, HandedOver, Announced, effect, Allowed}
 use Rattle.machine.proofs.Moved.{moved, Steps}
 use Rattle.machine.proofs.Rely.{relies}
 use Rattle.machine.proofs.Own.{allowed, value-found, is-response, not-empty}
-use Rattle.machine.proofs.Readings.{pick-le, one-le}
 use Rattle.machine.proofs.Class.{class}
 use Rattle.machine.proofs.Ordinary.{Ordinary, Sort, ordinary, clears, applies, hands-over, sort, elsewhere, Fate, rewritten, kept, fate}
 use Rattle.machine.proofs.Rows.{extras}
-use Rattle.machine.proofs.Sums.{but-at-most}
 use Rattle.machine.proofs.Debts.{other-owes}
 use Rattle.machine.proofs.Seen.{Seen, seen}
 use Rattle.machine.proofs.Course.{Busy, Falls, Course, rests, reads, opens, works, ends, course}
@@ -35,7 +36,7 @@ false-of false h = refl
 
 or-one : (x x′ y : Bool) (k : ℕ) → one x′ ≤ one x + k → one (x′ || y) ≤ one (x || y) + k
 or-one true true y k h = omega arith
-or-one true false y k h = omega (arith, one-le y)
+or-one true false y k h = omega (arith, pick-le y 1)
 or-one false true y k h = omega arith
 or-one false false y k h = omega arith
 
@@ -54,8 +55,8 @@ busy-announced Off o u y e = u
 busy-announced Reading o u y e = u
 busy-announced Opening o u y e = u
 busy-announced Looping o u y e = not-empty o y e
-busy-announced (Exiting v) o u y e = let z : _≡_ {A = ℕ} 0 1 = cc in omega arith
-busy-announced (Retracting v) o u y e = let z : _≡_ {A = ℕ} 0 1 = cc in omega arith
+busy-announced (Exiting v) o u y e = never cc
+busy-announced (Retracting v) o u y e = never cc
 
 busy-potential : (n : ℕ) (c : Config) (p : ℕ) (a : Content) (k : Kind) → Busy k → potentialBy n c p k a ≡ announcedPotential n c p a
 busy-potential n c p a Off u = absurd u
@@ -127,7 +128,7 @@ module _ (b : Object) (n i : ℕ) (lt : i < n) (c : Config) (safe : Safe c) (bel
         go : Dec (j ≡ p) → announcedPotential n (after (HandedOver j r) y) p (content (effect i (HandedOver j r) m) p) + k ≤ waitingPotential n c p
         go (yes z) =
             let u : content (effect i (HandedOver j r) m) p ≡ Resp r = rw (← z) (value-found (update-same (m .announcement) j _)) in
-            rw u (omega (arith, answered-most n (after (HandedOver j r) y) p below-p, hand-over-load b n i c p v a, either-yes {A = ℕ} (ℕ-discrete j p) 0 26 z))
+            rw u (omega (arith, answered-most n (after (HandedOver j r) y) p below-p, hand-over-load b n i c p v a, if-pos {C = ℕ} (ℕ-discrete j p) z 0 26))
         go (no d) =
             rw (elsewhere m i j p _ d, f) (omega (
               arith,
@@ -187,7 +188,7 @@ module _ (b : Object) (n i : ℕ) (lt : i < n) (c : Config) (safe : Safe c) (bel
   own-answered {e} (ordinary o) h f = own-stays e o h ∙ f
   own-answered (clears a) h f = f
   own-answered (applies a) h f = f
-  own-answered {r = r} (hands-over {j = j} a) h f = elsewhere m i j i _ (λ z. (let u : content m i ≡ Op (a .1) = rw (← z) (a .3) in let w : _≡_ {A = ℕ} 0 1 = cc in omega arith)) ∙ f
+  own-answered {r = r} (hands-over {j = j} a) h f = elsewhere m i j i _ (λ z. (let u : content m i ≡ Op (a .1) = rw (← z) (a .3) in never cc)) ∙ f
 
   -- Its part of the head becomes due by a link alone.
   own-head : {e : Effect} {y : Next} → Steps b i c e y → Sort b m i e → IsResp (content m i) → headPart n (after e y) i ≤ headPart n c i + cond (class e .links && not (atHead m i)) (39 * n) 0

@@ -5,18 +5,19 @@ use mathlib.Core.List.{List, [], _∷_}
 use Prim.Native.Nat.{ℕ, suc, _%_, _<_}
 use native.Mathlib.Omega.{arith}
 use native.Mathlib.Nat.{mod-lt, one-le-pow}
+use Rattle.laws.specs.Update.{update}
+use Rattle.laws.proofs.Tests.{clash}
+use Rattle.laws.proofs.Update.{update-all}
 use Rattle.cells.proofs.MarkLaws.{add-below, remove-below}
 use Rattle.machine.specs.Object.{Object}
 use Rattle.machine.specs.Lawful.{Lawful, Opens}
 use Rattle.machine.specs.Memory.{HeadValue, Free, Held, Content, Empty, Cell, Memory, stateOf, unmarked}
-use Rattle.machine.specs.Update.{update}
 use Rattle.machine.specs.Machine.{Phase, Task, linked, released, Next, Go, Turn, End, phaseOf, ends, turns, advance}
 use Rattle.machine.specs.Kind.{kind, off}
 use Rattle.machine.specs.Run.{Config, Served, start, idleTask, firstPhase, serve, run}
 use Rattle.machine.specs.Calls.{Call}
 use Rattle.machine.specs.Invariant.{TaskSafe, Safe}
 use Rattle.machine.specs.Form.{HeadValueFormed, ContentFormed, CellFormed, HeadFormed, AnnouncementFormed, MemoryFormed, PhaseFormed, OperationFormed, TaskFormed, Formed}
-use Rattle.machine.proofs.Update.{clash, update-all}
 use Rattle.machine.proofs.Effect.{Effect, Unchanged, Linked, Released, Cleared, Retracted, Applied, LinkedAt, ReleasedAt, HandedOver, Announced, effect, withHead, withAnnouncement}
 use Rattle.machine.proofs.Branch.{Branch, stay-idle, read-only, announce, poll-response, poll-waits, load-head, link-free, link-held, link-fails, priority-waits, priority-rests, own-waits, own-response, own-empty, apply, apply-fails, reload-apply, reload-apply-lost, load-helped, link-helped, link-rested, link-helped-fails, validate, validate-fails, hand-over, hand-over-fails, reload-hand-over, reload-hand-over-lost, release, release-fails, reload-release, reload-release-lost, clear, clear-fails, reload-clear, reload-clear-lost, exit-clear, exit-release, exit-link, exit-retract, link-exit, link-exit-fails, clear-exit, clear-exit-fails, release-exit, release-exit-fails, retract}
 use Rattle.machine.proofs.Moved.{moved, Steps}

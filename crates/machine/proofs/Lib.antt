@@ -1,9 +1,7 @@
-pub mod Update
 pub mod Effect
 pub mod Branch
 pub mod Branches
 pub mod Moved
-pub mod Lists
 pub mod Replay
 pub mod Kept
 pub mod Agreement
@@ -25,7 +23,6 @@ pub mod Quiet
 pub mod Rest
 pub mod MidWork
 pub mod OwnSteps
-pub mod Sums
 pub mod Readings
 pub mod Class
 pub mod Ordinary

@@ -4,11 +4,11 @@ use mathlib.Core.List.{List, [], _∷_, _++_, append-nil, append-assoc}
 use Prim.Native.Nat.{ℕ}
 use native.Mathlib.Omega.{arith}
 use lib.ListN.{length, length-append}
+use Rattle.laws.proofs.Places.{at-bound, at-next}
 use Rattle.machine.specs.Object.{Object}
 use Rattle.machine.specs.Calls.{Event}
 use Rattle.machine.specs.Book.{Book, blank, Kept, rest, then}
 use Rattle.machine.specs.History.{Linearizes}
-use Rattle.machine.proofs.Lists.{at-bound, at-next}
 use Rattle.machine.proofs.Agreement.{Agrees, blank-agrees, entries, booked}
 
 -- A book that agrees with the first events of a history es agrees with all of it when it is kept along the rest.

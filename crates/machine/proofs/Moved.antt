@@ -1,9 +1,9 @@
 -- A step as its effect: the configuration after it.
 use mathlib.Core.Path.{_≡_, ap}
 use Prim.Native.Nat.{ℕ}
+use Rattle.laws.specs.Update.{update}
 use Rattle.machine.specs.Object.{Object}
 use Rattle.machine.specs.Memory.{Memory}
-use Rattle.machine.specs.Update.{update}
 use Rattle.machine.specs.Machine.{Next, advance}
 use Rattle.machine.specs.Run.{Config, stepped, outcomeOfStep}
 use Rattle.machine.proofs.Effect.{Effect, effect}

@@ -5,30 +5,31 @@ use mathlib.Core.Logic.{_≢_}
 use Prim.Native.Nat.{ℕ, _+_, _*_, _≤_}
 use native.Mathlib.Decide.{ℕ-discrete}
 use native.Mathlib.Omega.{arith}
+use Rattle.laws.specs.Decision.{decided}
+use Rattle.laws.proofs.Update.{update-all, update-same, update-other}
+use Rattle.laws.proofs.Choice.{pick-le}
 use Rattle.cells.specs.Marks.{has, add}
 use Rattle.cells.proofs.MarkLaws.{has-none, has-add-other, has-remove, has-remove-other, add-has}
 use Rattle.machine.specs.Object.{Object}
 use Rattle.machine.specs.Memory.{HeadValue, Held, Content, Empty, Op, Resp, Cell, Memory, unmarked, head-dec, announcement-dec}
-use Rattle.machine.specs.Machine.{decided, linked, released}
+use Rattle.machine.specs.Machine.{linked, released}
 use Rattle.machine.specs.Invariant.{inHead, inAnnouncement, headValue, content, NotHolder}
 use Rattle.machine.specs.Potential.{Compared, NoWord, HeadWord, AnnouncementWord, one, stale}
-use Rattle.machine.proofs.Update.{update-all, update-same, update-other}
 use Rattle.machine.proofs.Effect.{Effect, Unchanged, Linked, Released, Cleared, Retracted, Applied, LinkedAt, ReleasedAt, HandedOver, Announced, effect, withHead, withAnnouncement, Allowed}
 use Rattle.machine.proofs.Own.{value-found}
-use Rattle.machine.proofs.Readings.{one-le}
 use Rattle.machine.proofs.Class.{Class, class}
 
 -- ---- Stale words
 
 pub stale-most : (m : Memory) (w : Compared) → stale m w ≤ 5
 stale-most m NoWord = omega arith
-stale-most m (HeadWord h) = omega (arith, one-le (not (decided (head-dec (m .head) h))))
-stale-most m (AnnouncementWord j a) = omega (arith, one-le (not (decided (announcement-dec (m .announcement j) a))))
+stale-most m (HeadWord h) = omega (arith, pick-le (not (decided (head-dec (m .head) h))) 1)
+stale-most m (AnnouncementWord j a) = omega (arith, pick-le (not (decided (announcement-dec (m .announcement j) a))) 1)
 
 -- Another head.
 pub head-words : (m : Memory) (x : Cell HeadValue) (w : Compared) → stale (withHead m x) w ≤ stale m w + 3
 head-words m x NoWord = omega arith
-head-words m x (HeadWord h) = omega (arith, one-le (not (decided (head-dec x h))))
+head-words m x (HeadWord h) = omega (arith, pick-le (not (decided (head-dec x h))) 1)
 head-words m x (AnnouncementWord j a) = omega arith
 
 -- ---- Ordinary effects
@@ -108,7 +109,7 @@ pub data Sort (b : Object) (m : Memory) (i : ℕ) : Effect → Type 0 where
 
 pub sort : (b : Object) (m : Memory) (i : ℕ) (e : Effect) → Allowed b m i e → Sort b m i e
 sort b m i Unchanged a = ordinary (unchanged m i)
-sort b m i Linked a = ordinary (head-ordinary m i _ (class Linked) refl (λ x d. has-add-other x i _ d) (omega (arith, one-le (has i (add i (m .head .marks))))) (λ w. link-words m i w (inHead m i) refl))
+sort b m i Linked a = ordinary (head-ordinary m i _ (class Linked) refl (λ x d. has-add-other x i _ d) (omega (arith, pick-le (has i (add i (m .head .marks))) 1)) (λ w. link-words m i w (inHead m i) refl))
 sort b m i Released a = ordinary (head-ordinary m i _ (class Released) refl (λ x d. has-remove-other x i _ d) (rw (has-remove i (m .head .marks)) (omega arith)) (head-words m _))
 sort b m i Cleared a = clears a
 sort b m i Retracted a = ordinary (own-ordinary m i Empty (class Retracted) refl refl (a .2))

@@ -2,6 +2,8 @@
 use mathlib.Core.Path.{_≡_, refl, sym, _∙_, ap}
 use mathlib.Core.Bool.{true, false}
 use Prim.Native.Nat.{ℕ}
+use Rattle.laws.proofs.Tests.{clash}
+use Rattle.laws.proofs.Update.{update-all, update-same}
 use Rattle.cells.specs.Marks.{has}
 use Rattle.cells.proofs.MarkLaws.{has-none, has-add, has-remove}
 use Rattle.machine.specs.Object.{Object}
@@ -9,7 +11,6 @@ use Rattle.machine.specs.Memory.{HeadValue, Held, Content, Empty, Op, Re
 use Rattle.machine.specs.Machine.{Phase, linked, Next, phaseOf}
 use Rattle.machine.specs.Kind.{kind}
 use Rattle.machine.specs.Invariant.{inHead, inAnnouncement, headValue, content, IsResp, IsOp, Announces, Agrees, NotHolder, HolderAnnounces, NoMark, OnlyMark, Saved, SavedFree, SavedHeld, OwnSaved, TaskSafe}
-use Rattle.machine.proofs.Update.{clash, update-all, update-same}
 use Rattle.machine.proofs.Effect.{Effect, Unchanged, Linked, Released, Cleared, Retracted, Applied, LinkedAt, ReleasedAt, HandedOver, Announced, effect, withAnnouncement, Allowed}
 use Rattle.machine.proofs.Branch.{Branch, stay-idle, read-only, announce, poll-response, poll-waits, load-head, link-free, link-held, link-fails, priority-waits, priority-rests, own-waits, own-response, own-empty, apply, apply-fails, reload-apply, reload-apply-lost, load-helped, link-helped, link-rested, link-helped-fails, validate, validate-fails, hand-over, hand-over-fails, reload-hand-over, reload-hand-over-lost, release, release-fails, reload-release, reload-release-lost, clear, clear-fails, reload-clear, reload-clear-lost, exit-clear, exit-release, exit-link, exit-retract, link-exit, link-exit-fails, clear-exit, clear-exit-fails, release-exit, release-exit-fails, retract}
 use Rattle.machine.proofs.Branches.{free-not}

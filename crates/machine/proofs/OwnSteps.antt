@@ -4,8 +4,8 @@ use mathlib.Core.Path.{_≡_, refl, sym, _∙_, ap}
 use mathlib.Core.Bool.{Bool, true, false, cond}
 use mathlib.Core.List.{List}
 use Prim.Native.Nat.{ℕ, suc, _<_}
-use native.Mathlib.Omega.{arith}
 use native.Mathlib.Decide.{decLt}
+use Rattle.laws.proofs.Tests.{clash, never}
 use Rattle.machine.specs.Object.{Object}
 use Rattle.machine.specs.Lawful.{Opens}
 use Rattle.machine.specs.Memory.{Content, Empty, Memory, stateOf, unmarked}
@@ -18,7 +18,6 @@ use Rattle.machine.specs.History.{Nothing, Pends, pending}
 use Rattle.machine.specs.Demand.{StepAccepted}
 use Rattle.machine.specs.Invariant.{headValue, content, OwnContent}
 use Rattle.machine.specs.Form.{OperationFormed, Formed}
-use Rattle.machine.proofs.Update.{clash}
 use Rattle.machine.proofs.Effect.{Effect, effect}
 use Rattle.machine.proofs.Moved.{Steps}
 use Rattle.machine.proofs.Calls.{Serving, moves, step-task, step-idle, serving}
@@ -43,8 +42,8 @@ announced-content Off a o e y g = clash e refl
 announced-content Reading a o e y g = clash e refl
 announced-content Opening a o e y g = clash e refl
 announced-content Looping a o e y g = rw g at y
-announced-content (Exiting v) a o e y g = let z : _≡_ {A = ℕ} 0 1 = cc in omega arith
-announced-content (Retracting v) a o e y g = let z : _≡_ {A = ℕ} 0 1 = cc in omega arith
+announced-content (Exiting v) a o e y g = never cc
+announced-content (Retracting v) a o e y g = never cc
 
 module _ (b : Object) (m : Memory) (i p x s : ℕ) where
   -- A reading operation ends in its first step, which reads the head.

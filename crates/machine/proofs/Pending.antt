@@ -5,14 +5,14 @@ use mathlib.Core.List.{List, [], _∷_}
 use Prim.Native.Nat.{ℕ, suc}
 use lib.Dec.{eqb}
 use borrow.Author.Tests.{eq-eqb, ne-eqb}
+use Rattle.laws.specs.Update.{update}
+use Rattle.laws.proofs.Update.{update-all}
 use Rattle.machine.specs.Object.{Object}
-use Rattle.machine.specs.Update.{update}
 use Rattle.machine.specs.Machine.{Task, Next, Go, Turn, End, phaseOf, ends, advance}
 use Rattle.machine.specs.Kind.{kind, off}
 use Rattle.machine.specs.Run.{Config, Served, start, firstPhase, answerOf, serve, run, history}
 use Rattle.machine.specs.Calls.{Call, Step}
 use Rattle.machine.specs.History.{Pending, Nothing, Pends, longer, heard, pendingFrom, pending}
-use Rattle.machine.proofs.Update.{update-all}
 use Rattle.machine.proofs.Calls.{Serving, begins, begin-task, begin-operation, begin-pending, moves, step-task, step-idle, serving}
 use Rattle.machine.proofs.Progress.{progress, progress-pends}
 

@@ -1,17 +1,18 @@
 -- The branches of a step as the book sees them: how the operation of the stepping task goes on, and who is entered before.
 use mathlib.Core.Path.{_≡_, refl}
-use mathlib.Core.Bool.{Bool, true, false, cond}
+use mathlib.Core.Bool.{Bool, true, false}
 use Prim.Native.Nat.{ℕ}
+use Rattle.laws.proofs.Tests.{clash}
+use Rattle.laws.proofs.Decision.{decided-yes, decided-no}
 use Rattle.machine.specs.Object.{Object}
 use Rattle.machine.specs.Memory.{HeadValue, Content, Resp, Cell, Memory, stateOf, head-dec}
-use Rattle.machine.specs.Machine.{Phase, Idle, ReadOnly, Announce, Poll, Apply, Retract, decided, Next, Go, Turn, End, phaseOf, ends}
+use Rattle.machine.specs.Machine.{Phase, Idle, ReadOnly, Announce, Poll, Apply, Retract, Next, Go, Turn, End, phaseOf, ends}
 use Rattle.machine.specs.Kind.{Kind, Off, Reading, Opening, Looping, Exiting, Retracting, kind, off}
 use Rattle.machine.specs.Invariant.{headValue, content}
 use Rattle.machine.specs.Book.{Book}
 use Rattle.machine.specs.Keeping.{enter, enterBy}
 use Rattle.machine.proofs.Effect.{Effect, Unchanged, Retracted, Applied, Announced}
 use Rattle.machine.proofs.Branch.{Branch, stay-idle, read-only, announce, poll-response, poll-waits, load-head, link-free, link-held, link-fails, priority-waits, priority-rests, own-waits, own-response, own-empty, apply, apply-fails, reload-apply, reload-apply-lost, load-helped, link-helped, link-rested, link-helped-fails, validate, validate-fails, hand-over, hand-over-fails, reload-hand-over, reload-hand-over-lost, release, release-fails, reload-release, reload-release-lost, clear, clear-fails, reload-clear, reload-clear-lost, exit-clear, exit-release, exit-link, exit-retract, link-exit, link-exit-fails, clear-exit, clear-exit-fails, release-exit, release-exit-fails, retract}
-use Rattle.machine.proofs.Update.{clash}
 use Rattle.machine.proofs.Related.{Answered, byContent, standing, Aside}
 
 -- Whether the operation stands announced, by the kind of the phase.
@@ -59,25 +60,16 @@ progress-pends retracts p = refl
 responded : {a : Content} {v : ℕ} → a ≡ Resp v → (h : HeadValue) (t : ℕ) → Answered v ≡ byContent a h t
 responded e h t = rw e refl
 
--- What is picked by a decision that is known either way.
-pick-yes : {A P : Type 0} (d : Dec P) (x y : A) → P → cond (decided d) x y ≡ x
-pick-yes (yes _) x y p = refl
-pick-yes (no n) x y p = absurd (n p)
-
-pick-no : {A P : Type 0} (d : Dec P) (x y : A) → (P → ⊥) → cond (decided d) x y ≡ y
-pick-no (yes p) x y n = absurd (n p)
-pick-no (no _) x y n = refl
-
 module _ (b : Object) (m : Memory) (i : ℕ) where
   -- A reader is entered before its only step; before a swap that applies an operation, its task; before one that fails, nobody.
   pub enters-reader : (k : Book) → enterBy b m i ReadOnly k ≡ enter b i k
   enters-reader k = refl
 
   pub enters-applied : (h : Cell HeadValue) (j o : ℕ) (k : Book) → m .head ≡ h → enterBy b m i (Apply h j o) k ≡ enter b j k
-  enters-applied h j o k e = pick-yes (head-dec (m .head) h) _ _ e
+  enters-applied h j o k e = rw (decided-yes (head-dec (m .head) h) e)
 
   enters-none : (h : Cell HeadValue) (j o : ℕ) → (m .head ≡ h → ⊥) → (k : Book) → enterBy b m i (Apply h j o) k ≡ k
-  enters-none h j o n k = pick-no (head-dec (m .head) h) _ _ n
+  enters-none h j o n k = rw (decided-no (head-dec (m .head) h) n)
 
   module _ (p x : ℕ) where
     pub progress : {f : Phase} {e : Effect} {y : Next} → Branch b m i p x f e y → Progress b m i x f e y

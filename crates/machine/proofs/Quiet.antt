@@ -3,6 +3,7 @@ use mathlib.Core.Path.{_≡_, refl}
 use mathlib.Core.Bool.{true, cond}
 use Prim.Native.Nat.{ℕ, _<_}
 use native.Mathlib.Decide.{decLt}
+use Rattle.laws.proofs.Tests.{clash}
 use Rattle.machine.specs.Object.{Object}
 use Rattle.machine.specs.Memory.{Held, Content, Empty, Memory}
 use Rattle.machine.specs.Machine.{Phase, Idle, ReadOnly, Announce, Poll, LoadHead, LinkHead, LoadPriority, LoadOwn, Apply, ReloadApply, LoadHelped, LinkHelped, Validate, HandOver, ReloadHandOver, Release, ReloadRelease, ClearHead, ReloadClear, LoadExit, LinkExit, ClearExit, ReleaseExit, Retract}
@@ -11,7 +12,6 @@ use Rattle.machine.specs.Run.{Config}
 use Rattle.machine.specs.History.{Nothing, Pends, Reads}
 use Rattle.machine.specs.Invariant.{headValue, content, OwnContent, Unlinked, NoMark, TaskSafe, Safe}
 use Rattle.machine.specs.Form.{OperationFormed, Formed}
-use Rattle.machine.proofs.Update.{clash}
 use Rattle.machine.proofs.Pending.{pendingOf}
 
 -- No trace of task t: its announcement is empty, and it has no mark in any cell.

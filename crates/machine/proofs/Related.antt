@@ -1,17 +1,17 @@
 -- How the plain book and a configuration are related: what stands on a task's page follows from its record and the cells.
 use mathlib.Core.Path.{_≡_, refl, sym, _∙_, ap, subst}
-use mathlib.Core.Logic.{_≢_}
+use mathlib.Core.Logic.{_≢_, ite, if-pos, if-neg}
 use Prim.Native.Nat.{ℕ}
 use native.Mathlib.Decide.{ℕ-discrete}
+use Rattle.laws.specs.Update.{update}
+use Rattle.laws.proofs.Update.{update-all, update-other}
 use Rattle.machine.specs.Object.{Object}
 use Rattle.machine.specs.Memory.{HeadValue, Free, Held, Content, Empty, Op, Resp, Cell, Memory, stateOf}
-use Rattle.machine.specs.Update.{either, update}
 use Rattle.machine.specs.Machine.{Phase, Task}
 use Rattle.machine.specs.Kind.{Kind, Off, Reading, Opening, Looping, Exiting, Retracting, kind}
 use Rattle.machine.specs.Run.{Config, start}
 use Rattle.machine.specs.Book.{Book, Page, Waiting, Done, blank}
 use Rattle.machine.specs.Invariant.{headValue, content, IsResp, NotHolder}
-use Rattle.machine.proofs.Update.{either-yes, either-no, update-all, update-other}
 use Rattle.machine.proofs.Effect.{Effect, Unchanged, Linked, Released, Cleared, Retracted, Applied, LinkedAt, ReleasedAt, HandedOver, Announced, effect, Allowed}
 
 -- Where a task stands: it has no operation, its operation waits, or it has been entered and has its response.
@@ -22,7 +22,7 @@ pub data Standing : Type 0 where
 -- An announced operation waits until the task holds the head, which then has its response.
 abbrev pub byHead : HeadValue → ℕ → Standing
 byHead (Free q) t = Waits
-byHead (Held q j r) t = either (ℕ-discrete j t) (Answered r) Waits
+byHead (Held q j r) t = ite (ℕ-discrete j t) (Answered r) Waits
 
 abbrev pub byContent : Content → HeadValue → ℕ → Standing
 byContent Empty h t = Waits
@@ -85,12 +85,12 @@ Aside i t (Announced o) = i ≢ t
 -- A task that doesn't hold the head waits.
 pub not-held : (h : HeadValue) (t : ℕ) → NotHolder h t → byHead h t ≡ Waits
 not-held (Free q) t n = refl
-not-held (Held q j r) t n = either-no (ℕ-discrete j t) (Answered r) Waits (λ e. n q r (ap (λ x. Held q x r) e))
+not-held (Held q j r) t n = if-neg (ℕ-discrete j t) (λ e. n q r (ap (λ x. Held q x r) e)) (Answered r) Waits
 
 -- To a task that has its response or isn't j, a head held by j is as a free one.
 as-free : (a : Content) (c q j r t : ℕ) → (j ≡ t → IsResp a) → byContent a (Held q j r) t ≡ byContent a (Free c) t
 as-free Empty c q j r t f = refl
-as-free (Op x) c q j r t f = either-no (ℕ-discrete j t) (Answered r) Waits f
+as-free (Op x) c q j r t f = if-neg (ℕ-discrete j t) f (Answered r) Waits
 as-free (Resp v) c q j r t f = refl
 
 module _ (b : Object) (m : Memory) (i t : ℕ) where
@@ -110,7 +110,7 @@ module _ (b : Object) (m : Memory) (i t : ℕ) where
   content-aside (LinkedAt j) u n = same-content j _ refl
   content-aside (ReleasedAt j) u n = same-content j _ refl
   content-aside (HandedOver j r) (q, x, e, y) n =
-      update-all (m .announcement) j _ (λ k (a : Cell Content). byContent (a .value) (headValue m) k ≡ byContent (content m k) (headValue m) k) (rw (e, y) (sym (either-yes (ℕ-discrete j j) (Answered r) Waits refl))) (λ k _. refl) t
+      update-all (m .announcement) j _ (λ k (a : Cell Content). byContent (a .value) (headValue m) k ≡ byContent (content m k) (headValue m) k) (rw (e, y) (sym (if-pos (ℕ-discrete j j) refl (Answered r) Waits))) (λ k _. refl) t
   content-aside (Announced o) u n = other-content _ n
 
   -- An effect that is no matter of a task leaves its standing.

@@ -3,14 +3,14 @@ use mathlib.Core.Path.{_≡_, refl, sym, _∙_}
 use mathlib.Core.Bool.{true, false}
 use mathlib.Core.Logic.{_≢_}
 use Prim.Native.Nat.{ℕ}
-use native.Mathlib.Omega.{arith}
+use Rattle.laws.proofs.Tests.{clash, never}
+use Rattle.laws.proofs.Update.{update-all}
 use Rattle.cells.specs.Marks.{has}
 use Rattle.cells.proofs.MarkLaws.{has-none, has-add-other, has-remove-other}
 use Rattle.machine.specs.Object.{Object}
 use Rattle.machine.specs.Memory.{HeadValue, Free, Held, Content, Empty, Op, Resp, Cell, Memory, unmarked}
 use Rattle.machine.specs.Machine.{linked, released, cleared}
 use Rattle.machine.specs.Invariant.{inHead, inAnnouncement, headValue, content, IsResp, Announces, Agrees, NotHolder, HolderAnnounces}
-use Rattle.machine.proofs.Update.{clash, update-all}
 use Rattle.machine.proofs.Effect.{Effect, Unchanged, Linked, Released, Cleared, Retracted, Applied, LinkedAt, ReleasedAt, HandedOver, Announced, effect, withHead, withAnnouncement, Allowed}
 use Rattle.machine.proofs.Branches.{free-not}
 
@@ -117,7 +117,7 @@ module _ (b : Object) (m : Memory) {i k : ℕ} (n : i ≢ k) where
   relies Released u = alike-head (released k (m .head)) (alike-released (m .head))
   relies Cleared (q, j, r, e, y) = rely-head (cleared (m .head)) (no-mark i) (λ _ _ _. free-not refl) (λ _ j′ _ _ f g _. let z : j ≡ j′ = cc in absurd (not-response g (rw z at y)))
   relies Retracted (v, e, f) = rely-writer n Empty f (λ o g. cc)
-  relies (Applied q j r) (c, x, e, f, _, _) = rely-head (unmarked (Held q j r)) (no-mark i) (λ _ g _ q′ r′ z. let u : _≡_ {A = ℕ} 0 1 = cc in omega arith) (λ _ _ _ _ g _ _. cc)
+  relies (Applied q j r) (c, x, e, f, _, _) = rely-head (unmarked (Held q j r)) (no-mark i) (λ _ g _ q′ r′ z. never cc) (λ _ _ _ _ g _ _. cc)
   relies (LinkedAt j) u = alike-announcement j (linked k (m .announcement j)) (alike-linked (m .announcement j))
   relies (ReleasedAt j) u = alike-announcement j (released k (m .announcement j)) (alike-released (m .announcement j))
   relies (HandedOver j r) (q, x, e, f) = rely-announcement j (unmarked (Resp r)) (no-mark i) (λ _. rw f tt) (λ _ _ g _. cc) (λ _ _ _ _. tt) (λ _ _ _ _ _. tt)

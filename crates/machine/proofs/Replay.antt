@@ -3,9 +3,10 @@ use mathlib.Core.Path.{_≡_, refl}
 use mathlib.Core.List.{List, [], _∷_, _++_}
 use Prim.Native.Nat.{ℕ}
 use lib.ListN.{length}
+use Rattle.laws.specs.Places.{At, here, later}
 use Rattle.machine.specs.Object.{Object}
 use Rattle.machine.specs.Book.{Operation}
-use Rattle.machine.specs.History.{At, here, later, replayed, reached}
+use Rattle.machine.specs.History.{replayed, reached}
 
 module _ (b : Object) (x : Operation) where
   -- The last operation leads from the state reached before it to the next one.

@@ -3,13 +3,13 @@ use mathlib.Core.Path.{_≡_, refl, sym}
 use mathlib.Core.Bool.{Bool, true, false, cond}
 use mathlib.Core.List.{List, [], _∷_}
 use Prim.Native.Nat.{ℕ}
+use Rattle.laws.proofs.Update.{update-all}
 use Rattle.machine.specs.Object.{Object}
 use Rattle.machine.specs.Memory.{Memory}
 use Rattle.machine.specs.Machine.{Idle, Task, Next, Go, Turn, End, phaseOf, ends, advance}
 use Rattle.machine.specs.Run.{Config, Served, start, firstPhase, begun, serve, run}
 use Rattle.machine.specs.Calls.{Call}
 use Rattle.machine.specs.Invariant.{TaskSafe, Safe}
-use Rattle.machine.proofs.Update.{update-all}
 use Rattle.machine.proofs.Effect.{Effect, effect, Allowed}
 use Rattle.machine.proofs.Branches.{free-not}
 use Rattle.machine.proofs.Moved.{moved, Steps}

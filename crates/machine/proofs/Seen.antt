@@ -1,22 +1,23 @@
 -- A step as the other tasks see it: what it does to the rank and the distance of its task, and to what that task owes.
 use mathlib.Core.Path.{_≡_, refl, _∙_, ap}
-use mathlib.Core.Bool.{Bool, true, false, _&&_, not, cond}
+use mathlib.Core.Bool.{Bool, true, false, _&&_, not, cond, not-eq-not}
 use mathlib.Core.Logic.{_≢_}
 use Prim.Native.Nat.{ℕ, _+_, _*_, _≤_}
 use native.Mathlib.Decide.{ℕ-discrete}
 use native.Mathlib.Omega.{arith}
+use Rattle.laws.specs.Decision.{decided}
+use Rattle.laws.proofs.Update.{update-same, update-other}
 use Rattle.cells.specs.Marks.{has, add, remove}
 use Rattle.cells.proofs.MarkLaws.{has-add, has-remove}
 use Rattle.machine.specs.Object.{Object}
 use Rattle.machine.specs.Memory.{Content, Empty, Op, Resp, Cell, Memory, unmarked, outcomeOf}
-use Rattle.machine.specs.Machine.{Phase, Poll, ClearHead, Next, phaseOf, turns, decided, released}
+use Rattle.machine.specs.Machine.{Phase, Poll, ClearHead, Next, phaseOf, turns, released}
 use Rattle.machine.specs.Invariant.{inHead, inAnnouncement, headValue, content, TaskSafe}
 use Rattle.machine.specs.Potential.{Row, row, Elsewhere, Applying, Finishing, one, answered, waiting, held, holds, dist, owed, owes}
-use Rattle.machine.proofs.Update.{update-same, update-other}
 use Rattle.machine.proofs.Effect.{Effect, LinkedAt, ReleasedAt, Announced, effect, withAnnouncement, Allowed}
 use Rattle.machine.proofs.Branch.{Branch, stay-idle, read-only, announce, poll-response, poll-waits, load-head, link-free, link-held, link-fails, priority-waits, priority-rests, own-waits, own-response, own-empty, apply, apply-fails, reload-apply, reload-apply-lost, load-helped, link-helped, link-rested, link-helped-fails, validate, validate-fails, hand-over, hand-over-fails, reload-hand-over, reload-hand-over-lost, release, release-fails, reload-release, reload-release-lost, clear, clear-fails, reload-clear, reload-clear-lost, exit-clear, exit-release, exit-link, exit-retract, link-exit, link-exit-fails, clear-exit, clear-exit-fails, release-exit, release-exit-fails, retract}
 use Rattle.machine.proofs.Own.{value-found, mark-found, not-empty}
-use Rattle.machine.proofs.Readings.{answered-not, not-true}
+use Rattle.machine.proofs.Readings.{answered-not}
 use Rattle.machine.proofs.Class.{class}
 use Rattle.machine.proofs.Ordinary.{remarked}
 use Rattle.machine.proofs.Rows.{Extra, extras, row-bounds}
@@ -82,7 +83,7 @@ module _ (b : Object) (m : Memory) (i k o n p t : ℕ) (ex : Extra (held (headVa
   seen load-helped s a = omega arith
   seen (link-helped {j = j} e f) s a = rw (remarked m i j (add i (m .announcement j .marks)) i, remarked m i j (add i (m .announcement j .marks)) t) (omega (arith, marks-at j))
   seen (link-rested {j = j} e f) s a = rw (remarked m i j (add i (m .announcement j .marks)) i, remarked m i j (add i (m .announcement j .marks)) t) (omega (arith, marks-at j))
-  seen (link-helped-fails {j = j} e) s a = rw (not-true (inAnnouncement m i t) (s .saved .0 t)) (omega (arith, miss-owes (ℕ-discrete j t) (holds t (headValue m) && inHead m i) (owed m t) (owed-most m t)))
+  seen (link-helped-fails {j = j} e) s a = rw (not-eq-not {a = inAnnouncement m i t} {b = false} .0 (s .saved .0 t)) (omega (arith, miss-owes (ℕ-discrete j t) (holds t (headValue m) && inHead m i) (owed m t) (owed-most m t)))
   seen (validate e) s a = omega arith
   seen (validate-fails e) s a = omega arith
   seen (hand-over {h = h} {j = j} e) s a = omega (arith, row-bounds (ClearHead h j) (held (headValue m)) (inHead m i) (answered (content (withAnnouncement m j (unmarked (Resp (outcomeOf (h .value))))) i)) .rank, written-owes m j (unmarked (Resp (outcomeOf (h .value)))) i t (Finishing j))

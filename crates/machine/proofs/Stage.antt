@@ -6,6 +6,10 @@ use mathlib.Core.Logic.{_≢_}
 use Prim.Native.Nat.{ℕ, _+_, _*_, _≤_, _<_}
 use native.Mathlib.Decide.{ℕ-discrete}
 use native.Mathlib.Omega.{arith}
+use Rattle.laws.specs.Sum.{but}
+use Rattle.laws.proofs.Update.{update-all, update-same}
+use Rattle.laws.proofs.Sums.{but-rise, but-rises, but-at-most}
+use Rattle.laws.proofs.Decision.{decided-no}
 use Rattle.cells.specs.Marks.{has}
 use Rattle.cells.proofs.MarkLaws.{has-none}
 use Rattle.machine.specs.Object.{Object}
@@ -14,15 +18,13 @@ use Rattle.machine.specs.Machine.{Phase, Poll, Task, Next, phaseOf, turn
 use Rattle.machine.specs.Kind.{kind}
 use Rattle.machine.specs.Run.{Config}
 use Rattle.machine.specs.Invariant.{inHead, headValue, content, IsResp, OwnContent}
-use Rattle.machine.specs.Potential.{row, answered, held, unanswered, but, rankOf, ranks, dist, headLoad}
-use Rattle.machine.proofs.Update.{update-all, update-same}
+use Rattle.machine.specs.Potential.{row, answered, held, unanswered, rankOf, ranks, dist, headLoad}
 use Rattle.machine.proofs.Effect.{Cleared, Applied, HandedOver, Announced, effect, withHead, Allowed}
 use Rattle.machine.proofs.Branch.{Branch, announce, apply, hand-over, clear, clear-exit}
 use Rattle.machine.proofs.Moved.{moved, Steps}
 use Rattle.machine.proofs.Own.{value-found}
-use Rattle.machine.proofs.Readings.{decided-no, resp-not-op}
+use Rattle.machine.proofs.Readings.{resp-not-op}
 use Rattle.machine.proofs.Rows.{extras, row-bounds}
-use Rattle.machine.proofs.Sums.{but-rise, but-rises, but-at-most}
 use Rattle.machine.proofs.Ordinary.{elsewhere}
 use Rattle.machine.proofs.Distance.{applies-other}
 use Rattle.machine.proofs.Waiting.{with}

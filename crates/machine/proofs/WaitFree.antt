@@ -1,11 +1,13 @@
 -- Every operation ends within a number of its own steps that follows from the number of tasks alone.
 use mathlib.Core.Path.{_≡_, ap}
-use mathlib.Core.Bool.{true, false, cond}
+use mathlib.Core.Bool.{false, cond}
 use mathlib.Core.List.{List, [], _∷_}
 use Prim.Native.Nat.{ℕ, suc, _+_, _*_, _≤_, _<_}
 use native.Mathlib.Decide.{ℕ-discrete}
 use native.Mathlib.Nat.{mul-add, mul-left-comm, mul-le-mul-left, mul-le-mul-right}
 use native.Mathlib.Omega.{arith}
+use Rattle.laws.proofs.Update.{update-same, update-other}
+use Rattle.laws.proofs.Tests.{never}
 use Rattle.machine.specs.Object.{Object}
 use Rattle.machine.specs.Lawful.{Opens}
 use Rattle.machine.specs.Machine.{Idle, Task, Next, Go, Turn, End, ends, advance}
@@ -15,7 +17,6 @@ use Rattle.machine.specs.Calls.{Call, Ended}
 use Rattle.machine.specs.Invariant.{Safe}
 use Rattle.machine.specs.Form.{Formed}
 use Rattle.machine.specs.Potential.{bound, potential, Bounded}
-use Rattle.machine.proofs.Update.{update-same, update-other}
 use Rattle.machine.proofs.Effect.{Effect}
 use Rattle.machine.proofs.Moved.{moved, Steps, steps}
 use Rattle.machine.proofs.Calls.{Serving, begins, begin-task, begin-operation, begin-pending, moves, step-task, step-idle, serving}
@@ -39,9 +40,6 @@ bound-ceiling n h =
     )
 
 -- ---- One call
-
-never : {A : Type 0} → _≡_ {A = ℕ} 0 1 → A
-never z = absurd (omega arith)
 
 pending : {k : Kind} → off k ≡ false → k ≡ Off → ⊥
 pending e z = never cc

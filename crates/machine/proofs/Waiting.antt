@@ -1,27 +1,29 @@
 -- The potential of an operation that waits for its response, when the cells and the record of one task i change.
 use mathlib.Core.Path.{_≡_, refl, sym}
 use mathlib.Core.Bool.{Bool, _&&_, not, cond}
-use mathlib.Core.Logic.{_≢_}
+use mathlib.Core.Logic.{_≢_, ite, if-neg}
 use Prim.Native.Nat.{ℕ, _+_, _*_, _≤_, _<_}
 use native.Mathlib.Decide.{ℕ-discrete}
 use native.Mathlib.Nat.{mul-le-mul-right}
 use native.Mathlib.Omega.{arith}
+use Rattle.laws.specs.Update.{update}
+use Rattle.laws.specs.Sum.{but}
+use Rattle.laws.proofs.Update.{update-same, update-other}
+use Rattle.laws.proofs.Sums.{sum-most, sum-change, but-change, but-most}
+use Rattle.laws.proofs.Choice.{pick-le}
 use Rattle.cells.specs.Marks.{has}
 use Rattle.machine.specs.Object.{Object}
 use Rattle.machine.specs.Memory.{HeadValue, Free, Held, Content, Op, Resp, Cell, Memory, unmarked}
-use Rattle.machine.specs.Update.{either, update}
 use Rattle.machine.specs.Machine.{Poll, Task, cleared}
 use Rattle.machine.specs.Run.{Config}
 use Rattle.machine.specs.Invariant.{inHead, headValue, content}
-use Rattle.machine.specs.Potential.{Row, row, answered, waiting, stale, held, but, rankOf, ranks, dist, distOf, dists, applyWeight, handOverWeight, clearWeight, cycleWeight, stageWeights, placeOf, waitingPotential, bound}
-use Rattle.machine.proofs.Update.{update-same, update-other, either-no}
+use Rattle.machine.specs.Potential.{Row, row, answered, waiting, held, rankOf, ranks, dist, distOf, dists, applyWeight, handOverWeight, clearWeight, cycleWeight, stageWeights, placeOf, waitingPotential, bound}
 use Rattle.machine.proofs.Effect.{Effect, Cleared, Applied, HandedOver, effect, withHead, Allowed}
 use Rattle.machine.proofs.Own.{value-found}
-use Rattle.machine.proofs.Readings.{one-le, pick-le, resp-not-op}
+use Rattle.machine.proofs.Readings.{resp-not-op}
 use Rattle.machine.proofs.Class.{Class, class}
 use Rattle.machine.proofs.Ordinary.{stale-most, head-words, Ordinary, Sort, ordinary, clears, applies, hands-over}
 use Rattle.machine.proofs.Rows.{row-bounds}
-use Rattle.machine.proofs.Sums.{sum-most, sum-change, but-change, but-most}
 use Rattle.machine.proofs.Distance.{dist-most, dist-below}
 
 -- The configuration with the cells m′ and the record t′ of task i.
@@ -67,7 +69,7 @@ pub stages-stay : (n p d d′ : ℕ) (m m′ : Memory) (h : HeadValue) {h′ : H
 stages-stay n p d d′ m m′ (Free q) e l f = rw e (omega (arith, mul-le-mul-right (cycleWeight n) l))
 stages-stay n p d d′ m m′ (Held q j r) e l f = rw (e, f q j r refl) (go (ℕ-discrete j p) (cond (waiting (content m j)) handOverWeight 0))
   where
-    go : (k : Dec (j ≡ p)) (w : ℕ) → either k 0 (d′ * cycleWeight n + applyWeight n + clearWeight n + w) ≤ either k 0 (d * cycleWeight n + applyWeight n + clearWeight n + w)
+    go : (k : Dec (j ≡ p)) (w : ℕ) → ite k 0 (d′ * cycleWeight n + applyWeight n + clearWeight n + w) ≤ ite k 0 (d * cycleWeight n + applyWeight n + clearWeight n + w)
     go (yes e) w = omega arith
     go (no _) w = omega (arith, mul-le-mul-right (cycleWeight n) l)
 
@@ -75,14 +77,14 @@ pub stages-most : (n p d : ℕ) (m : Memory) (h : HeadValue) → stageWeights n 
 stages-most n p d m (Free q) = omega arith
 stages-most n p d m (Held q j r) = go (ℕ-discrete j p) (waiting (content m j))
   where
-    go : (k : Dec (j ≡ p)) (w : Bool) → either k 0 (d * cycleWeight n + applyWeight n + clearWeight n + cond w handOverWeight 0) ≤ (d + 1) * cycleWeight n
+    go : (k : Dec (j ≡ p)) (w : Bool) → ite k 0 (d * cycleWeight n + applyWeight n + clearWeight n + cond w handOverWeight 0) ≤ (d + 1) * cycleWeight n
     go (yes e) w = omega arith
     go (no _) w = omega (arith, pick-le w handOverWeight)
 
 -- A stage change, while p waits with o.
 module _ (b : Object) (n : ℕ) (m : Memory) (i p o d d′ : ℕ) (f : content m p ≡ Op o) where
   held-by : (m : Memory) (d q j r : ℕ) → j ≢ p → stageWeights n p d m (Held q j r) ≡ d * cycleWeight n + applyWeight n + clearWeight n + cond (waiting (content m j)) handOverWeight 0
-  held-by m d q j r z = either-no (ℕ-discrete j p) 0 _ z
+  held-by m d q j r z = if-neg (ℕ-discrete j p) z 0 _
 
   pub stages-clear : Allowed b m i Cleared → d′ ≤ d → stageWeights n p d′ (effect i Cleared m) (headValue (effect i Cleared m)) + clearWeight n ≤ stageWeights n p d m (headValue m)
   stages-clear (q, j, r, h, y) l =
@@ -92,7 +94,7 @@ module _ (b : Object) (n : ℕ) (m : Memory) (i p o d d′ : ℕ) (f : content m
       → stageWeights n p d′ (effect i (Applied q j r) m) (headValue (effect i (Applied q j r) m)) + applyWeight n ≤ stageWeights n p d m (headValue m)
   stages-apply q j r (c, x, h, y, _, _) l = rw h (go (ℕ-discrete j p))
     where
-      go : (k : Dec (j ≡ p)) → either k 0 (d′ * cycleWeight n + applyWeight n + clearWeight n + cond (waiting (content m j)) handOverWeight 0) + applyWeight n ≤ d * cycleWeight n + applyWeight n
+      go : (k : Dec (j ≡ p)) → ite k 0 (d′ * cycleWeight n + applyWeight n + clearWeight n + cond (waiting (content m j)) handOverWeight 0) + applyWeight n ≤ d * cycleWeight n + applyWeight n
       go (yes e) = omega arith
       go (no z) = omega (arith, pick-le (waiting (content m j)) handOverWeight, mul-le-mul-right (cycleWeight n) (l z))
 
@@ -120,11 +122,11 @@ place-other {b} i c t′ p s d = rw (update-other (c .task) i t′ p d) (go s)
     r = row (c .task p .phase)
 
     renewed : (x : Cell HeadValue) → placeOf (withHead (c .memory) x) p r ≤ placeOf (c .memory) p r + 16
-    renewed x = omega (arith, head-words (c .memory) x (r .compared), one-le (r .linked && not (has p (x .marks))))
+    renewed x = omega (arith, head-words (c .memory) x (r .compared), pick-le (r .linked && not (has p (x .marks))) 1)
 
     go : {e : Effect} → Sort b (c .memory) i e → placeOf (effect i e (c .memory)) p r + 0 ≤ placeOf (c .memory) p r + share i c (class e) p + class e .stage
     go {e} (ordinary o) =
-        rw (o .marks p (λ z. d (sym z)), either-no (ℕ-discrete i p) 0 (class e .cost (inHead (c .memory) i)) d) (omega (arith, o .words (r .compared)))
+        rw (o .marks p (λ z. d (sym z)), if-neg (ℕ-discrete i p) d 0 (class e .cost (inHead (c .memory) i))) (omega (arith, o .words (r .compared)))
     go (clears _) = omega (arith, renewed (cleared (c .memory .head)))
     go (applies {q = q} {j = j} {r = v} _) = omega (arith, renewed (unmarked (Held q j v)))
     go {e} (hands-over _) = omega (arith, stale-most (effect i e (c .memory)) (r .compared))

@@ -3,10 +3,10 @@ use mathlib.Core.Bool.{Bool, true, false, cond}
 use mathlib.Core.List.{List, [], _∷_}
 use Prim.Native.Nat.{ℕ, suc}
 use lib.Dec.{ltb}
+use Rattle.laws.specs.Update.{update}
 use Rattle.machine.specs.Object.{Object}
 use Rattle.machine.specs.Calls.{Call, Begin, Step, Answer, Begun, Running, Ended, Refused, Event}
 use Rattle.machine.specs.Memory.{Memory, image}
-use Rattle.machine.specs.Update.{update}
 use Rattle.machine.specs.Machine.{Phase, Idle, ReadOnly, Announce, Task, plan, result, perform, Next, Go, Turn, End, after, advance}
 use Rattle.machine.specs.Kind.{kind, off}
 

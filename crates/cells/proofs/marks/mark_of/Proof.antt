@@ -5,8 +5,9 @@ use native.Mathlib.Omega.{arith}
 use borrow.Author.Tests.{lt-ltb, le-ltb, eqb-true}
 use borrow.Author.Needs.{needs}
 use lib.Dec.{eqb}
+use Rattle.laws.specs.Below.{allBelow}
+use Rattle.laws.proofs.Below.{all-at}
 use Rattle.cells.specs.Layout.{marksWidth, markOf}
-use Rattle.cells.proofs.Tests.{holds-at}
 use Rattle.cells.proofs.marks.mark_of.Statement.{statement}
 use Rattle.cells.proofs.marks.mark_of.Tie as tie
 
@@ -18,10 +19,10 @@ shifted : ℕ → Bool
 shifted i = eqb (1 * 2 ^ i % 2 ^ 64) (2 ^ i)
 
 returns : tie.Need-returns
-unfolding markOf shifted
+unfolding markOf shifted allBelow
 returns c =
     let i = c .before .args .task in
-    simp (lt-ltb i marksWidth (omega arith)) (eqb-true (1 * 2 ^ i % 2 ^ 64) (2 ^ i) (holds-at marksWidth shifted refl i (omega arith)))
+    simp (lt-ltb i marksWidth (omega arith)) (eqb-true (1 * 2 ^ i % 2 ^ 64) (2 ^ i) (all-at marksWidth shifted refl i (omega arith)))
 
 returns-2 : tie.Need-returns-2
 unfolding markOf

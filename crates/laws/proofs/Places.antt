@@ -5,7 +5,7 @@ use mathlib.Core.Logic.{_⊎_, inl, inr}
 use Prim.Native.Nat.{ℕ, suc, _<_}
 use native.Mathlib.Omega.{arith}
 use lib.ListN.{length}
-use Rattle.machine.specs.History.{At, here, later}
+use Rattle.laws.specs.Places.{At, here, later}
 
 -- The element y stands at place i of a list, or it is x, at the place after the list.
 abbrev pub Either : {A : Type 0} → List A → A → ℕ → A → Type 0

@@ -1,12 +1,11 @@
--- Sums over the tasks: the change of one share, and the most that a sum can be.
+-- Sums of a function's first values: the change of one share, and the most that a sum can be.
 use mathlib.Core.Path.{_≡_, sym, _∙_}
-use mathlib.Core.Logic.{_≢_}
+use mathlib.Core.Logic.{_≢_, ite}
 use Prim.Native.Nat.{ℕ, zero, suc, _+_, _*_, _≤_, _<_}
 use native.Mathlib.Decide.{ℕ-discrete, decLt}
 use native.Mathlib.Nat.{not-suc-le-zero}
 use native.Mathlib.Omega.{arith}
-use Rattle.machine.specs.Update.{either}
-use Rattle.machine.specs.Potential.{sum, but}
+use Rattle.laws.specs.Sum.{sum, but}
 
 pub sum-le : (n : ℕ) (f g : ℕ → ℕ) → ((x : ℕ) → x < n → g x ≤ f x) → sum n g ≤ sum n f
 sum-le zero f g h = omega arith
@@ -32,12 +31,12 @@ sum-change (suc n) f g k a b l h y = go (λ l. sum-change n f g k a b l h y) (�
         omega (arith, sum-le n f g (λ x l. h x (λ z. (let v : x ≡ n = z ∙ e in omega arith))))
     go rest (no d) = omega (arith, rest (omega arith), h n (λ z. d (sym z)))
 
--- ---- Sums over all tasks but p
+-- ---- Sums with one share left out
 
 but-le : (p x : ℕ) (f g : ℕ → ℕ) → (x ≢ p → g x ≤ f x) → but p g x ≤ but p f x
 but-le p x f g h = go (ℕ-discrete x p)
   where
-    go : (d : Dec (x ≡ p)) → either d 0 (g x) ≤ either d 0 (f x)
+    go : (d : Dec (x ≡ p)) → ite d 0 (g x) ≤ ite d 0 (f x)
     go (yes e) = omega arith
     go (no n) = h n
 
@@ -45,19 +44,19 @@ module _ (n p : ℕ) (f g : ℕ → ℕ) where
   pub but-others : ((x : ℕ) → x ≢ p → g x ≤ f x) → sum n (but p g) ≤ sum n (but p f)
   but-others h = sum-le n (but p f) (but p g) (λ x _. but-le p x f g (h x))
 
-  -- Task i gives up a; no other share rises.
+  -- Share i gives up a; no other rises.
   pub but-change : (i a : ℕ) → i < n → ((x : ℕ) → x ≢ i → g x ≤ f x) → g i + a ≤ f i → sum n (but p g) + but p (λ _. a) i ≤ sum n (but p f)
   but-change i a l h y = omega (arith, sum-change n (but p f) (but p g) i (but p (λ _. a) i) 0 l (λ x d. but-le p x f g (λ _. h x d)) (go (ℕ-discrete i p)))
     where
-      go : (d : Dec (i ≡ p)) → either d 0 (g i) + either d 0 a ≤ either d 0 (f i) + 0
+      go : (d : Dec (i ≡ p)) → ite d 0 (g i) + ite d 0 a ≤ ite d 0 (f i) + 0
       go (yes e) = omega arith
       go (no d) = omega arith
 
-  -- The share of task j, which may be none of the n, rises by at most b.
+  -- Share j, which may be none of the n, rises by at most b.
   pub but-rise : (j b : ℕ) → ((x : ℕ) → x ≢ j → g x ≤ f x) → g j ≤ f j + b → sum n (but p g) ≤ sum n (but p f) + but p (λ _. b) j
   but-rise j b h y = go (decLt j n)
     where
-      at-j : (d : Dec (j ≡ p)) → either d 0 (g j) + 0 ≤ either d 0 (f j) + either d 0 b
+      at-j : (d : Dec (j ≡ p)) → ite d 0 (g j) + 0 ≤ ite d 0 (f j) + ite d 0 b
       at-j (yes e) = omega arith
       at-j (no d) = omega arith
 
@@ -69,18 +68,18 @@ module _ (n p : ℕ) (f g : ℕ → ℕ) where
   pub but-rises : (c : ℕ) → p < n → ((x : ℕ) → g x ≤ f x + c) → sum n (but p g) + c ≤ sum n (but p f) + n * c
   but-rises c l h = omega (arith, sum-change n (λ x. but p f x + c) (but p g) p c 0 l (λ x _. at x (ℕ-discrete x p)) (own (ℕ-discrete p p)), sum-rise n c (but p f))
     where
-      at : (x : ℕ) (d : Dec (x ≡ p)) → either d 0 (g x) ≤ either d 0 (f x) + c
+      at : (x : ℕ) (d : Dec (x ≡ p)) → ite d 0 (g x) ≤ ite d 0 (f x) + c
       at x (yes e) = omega arith
       at x (no d) = h x
 
-      own : (d : Dec (p ≡ p)) → either d 0 (g p) + c ≤ either d 0 (f p) + c + 0
+      own : (d : Dec (p ≡ p)) → ite d 0 (g p) + c ≤ ite d 0 (f p) + c + 0
       own (yes e) = omega arith
       own (no d) = absurd (d mathlib.Core.Path.refl)
 
 pub but-at-most : (p x c : ℕ) → but p (λ _. c) x ≤ c
 but-at-most p x c = go (ℕ-discrete x p)
   where
-    go : (d : Dec (x ≡ p)) → either d 0 c ≤ c
+    go : (d : Dec (x ≡ p)) → ite d 0 c ≤ c
     go (yes e) = omega arith
     go (no n) = omega arith
 

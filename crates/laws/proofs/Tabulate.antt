@@ -6,9 +6,9 @@ use native.Mathlib.Decide.{ℕ-discrete}
 use native.Mathlib.Omega.{arith}
 use lib.ListN.{length, getD, set, replicate, length-append, length-set, length-replicate, getD-replicate, List·getD-append}
 use lib.Seq.{getD-set-same, getD-set-other, getD-at, ext-getD}
-use Rattle.machine.specs.Update.{update}
-use Rattle.machine.proofs.Update.{update-all}
-use Rattle.stepping.specs.Encoding.{tabulate}
+use Rattle.laws.specs.Update.{update}
+use Rattle.laws.proofs.Update.{update-all}
+use Rattle.laws.specs.Tabulate.{tabulate}
 
 module _ {A : Type 0} where
   pub tabulate-length : (n : ℕ) (f : ℕ → A) → length (tabulate n f) ≡ n
