@@ -13,8 +13,8 @@ use Rattle.machine.specs.Calls.{Call, Step, Running, Event}
 use Rattle.machine.specs.Run.{Config, Served, start, run}
 use Rattle.machine.specs.History.{Pending, Nothing, Pends, heard, pendingFrom, pending}
 use Rattle.machine.specs.Demand.{StepAccepted}
-use Rattle.machine.proofs.Calls.{Serving, moves, step-task, step-idle, serving}
-use Rattle.machine.proofs.Pending.{pendingOf, pending-is}
+use Rattle.machine.proofs.Steps.Calls.{Serving, moves, step-task, step-idle, serving}
+use Rattle.machine.proofs.Points.Pending.{pendingOf, pending-is}
 use Rattle.records.specs.declared.record.Task.{Task}
 use Rattle.stepping.specs.declared.answer.StartAnswer.the-variants as start
 use Rattle.stepping.specs.Call.{startOf}

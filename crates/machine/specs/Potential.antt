@@ -262,16 +262,16 @@ counts (Approaching j) = false
 counts (Marking j) = true
 counts (Finishing j) = true
 
--- What is owed to task t: 2 while it waits or holds the head.
-abbrev pub owed : Memory → ℕ → ℕ
-owed m t = cond (waiting (content m t) || holds t (headValue m)) 2 0
+-- The changes that help for task t still takes: 2 while it waits or holds the head.
+abbrev pub changesDue : Memory → ℕ → ℕ
+changesDue m t = cond (waiting (content m t) || holds t (headValue m)) 2 0
 
 -- How often task x can still change the announcement of t while a mark of p stands there. One that works for the holder
--- with its mark in the head owes nothing more.
-abbrev pub owes : Memory → (x t : ℕ) → Work → ℕ
-owes m x t w =
+-- with its mark in the head makes none for that.
+abbrev pub changesLeft : Memory → (x t : ℕ) → Work → ℕ
+changesLeft m x t w =
     cond (approaches t w) 2 (one (inAnnouncement m x t))
-    + cond (worksFor t w && (holds t (headValue m) && inHead m x)) 0 (owed m t)
+    + cond (worksFor t w && (holds t (headValue m) && inHead m x)) 0 (changesDue m t)
 
 -- The part of the head: due while the own mark stands in it or the task holds it.
 abbrev pub atHead : Memory → ℕ → Bool
@@ -284,11 +284,11 @@ abbrev pub headPart : ℕ → Config → ℕ → ℕ
 headPart n c i = cond (atHead (c .memory) i) (headLoad n c i) 0
 
 -- The part of the announcement of task t: due while the own mark stands in it.
-abbrev pub debts : ℕ → Config → (i t : ℕ) → ℕ
-debts n c i t = sum n (but i (λ x. owes (c .memory) x t (row (c .task x .phase) .work)))
+abbrev pub changesByOthers : ℕ → Config → (i t : ℕ) → ℕ
+changesByOthers n c i t = sum n (but i (λ x. changesLeft (c .memory) x t (row (c .task x .phase) .work)))
 
 abbrev pub markPart : ℕ → Config → (i t : ℕ) → ℕ
-markPart n c i t = cond (inAnnouncement (c .memory) i t) (announcementWeight * (1 + debts n c i t)) 0
+markPart n c i t = cond (inAnnouncement (c .memory) i t) (announcementWeight * (1 + changesByOthers n c i t)) 0
 
 -- What is set aside before the links of the head and of an announcement, by the parts that are due then.
 abbrev pub headAside : ℕ → Work → ℕ

@@ -14,7 +14,7 @@ use Rattle.machine.specs.Lawful.{Opens}
 use Rattle.machine.specs.Memory.{Empty, image}
 use Rattle.machine.specs.Machine.{Next, Go, Turn, End}
 use Rattle.machine.specs.Kind.{off}
-use Rattle.machine.specs.Run.{Config, Served, answerOf, start, serve, run, history}
+use Rattle.machine.specs.Run.{Config, Served, answerOf, start, serve, run, history, machineShows}
 use Rattle.machine.specs.Calls.{Call, Refused}
 use Rattle.machine.specs.History.{Pends, pending}
 use Rattle.machine.specs.Demand.{Shown, Demand}
@@ -22,13 +22,13 @@ use Rattle.machine.specs.Ending.{EndsChanging}
 use Rattle.machine.specs.Invariant.{content}
 use Rattle.machine.specs.Points.{nextAccess}
 use Rattle.machine.specs.Potential.{bound}
-use Rattle.machine.proofs.Calls.{Serving, begins, begin-task, begin-operation, begin-pending, moves, step-task, step-idle, serving}
-use Rattle.machine.proofs.Demands.{machineShows, demand}
-use Rattle.machine.proofs.Emptied.{emptyings}
-use Rattle.machine.proofs.Formed.{formed-run}
-use Rattle.machine.proofs.OwnSteps.{own-record}
-use Rattle.machine.proofs.Pending.{pending-is}
-use Rattle.machine.proofs.WaitFree.{bound-ceiling, pending-steps}
+use Rattle.machine.proofs.Steps.Calls.{Serving, begins, begin-task, begin-operation, begin-pending, moves, step-task, step-idle, serving}
+use Rattle.machine.proofs.Whole.Demands.{demand}
+use Rattle.machine.proofs.Points.Emptied.{emptyings}
+use Rattle.machine.proofs.Invariant.Ranges.{formed-run}
+use Rattle.machine.proofs.Points.OwnSteps.{own-record}
+use Rattle.machine.proofs.Points.Pending.{pending-is}
+use Rattle.machine.proofs.Whole.WaitFree.{bound-ceiling, pending-steps}
 use Rattle.transition.specs.Encoding.{encodeAccess}
 use Rattle.transition.proofs.Lawful.{object-lawful}
 use Rattle.stepping.specs.Step.{cellInForm}

@@ -20,7 +20,7 @@ use Rattle.machine.specs.Machine as machine
 use Rattle.machine.specs.Machine.{Idle, ReadOnly, Announce, Poll, LoadHead, LinkHead, LoadPriority, LoadOwn, Apply, ReloadApply, LoadHelped, LinkHelped, Validate, HandOver, ReloadHandOver, Release, ReloadRelease, ClearHead, ReloadClear, LoadExit, LinkExit, ClearExit, ReleaseExit, Retract}
 use Rattle.machine.specs.Kind.{Kind, Off, Reading, Opening, Looping, Exiting, Retracting, kind, off}
 use Rattle.machine.specs.Form.{HeadFormed, AnnouncementFormed, PhaseFormed, OperationFormed, TaskFormed}
-use Rattle.machine.proofs.Calls.{off-idle}
+use Rattle.machine.proofs.Steps.Calls.{off-idle}
 use Rattle.records.specs.declared.phase.Phase.{Phase}
 use Rattle.records.specs.declared.phase.Phase.the-variants as phase
 use Rattle.records.specs.declared.phase.PhaseRead.the-variants.{Known}
