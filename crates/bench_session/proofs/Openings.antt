@@ -5,7 +5,7 @@ use Prim.Native.Nat.{ℕ, suc, _≤_, _<_}
 use native.Mathlib.Omega.{arith}
 use borrow.Author.Tests.{eq-eqb}
 use lib.ListN.{length}
-use Rattle.laws.proofs.Tests.{never}
+use Rattle.laws.proofs.Clash.{never}
 use Rattle.cells.proofs.Ceilings.{ceiling-cubed}
 use Rattle.table.specs.File.{Bytes}
 use Rattle.machine.specs.Object.{Object}

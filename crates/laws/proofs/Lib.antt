@@ -1,4 +1,4 @@
-pub mod Tests
+pub mod Clash
 pub mod Choice
 pub mod Below
 pub mod Decision

@@ -7,7 +7,7 @@ use native.Mathlib.Nat.{not-suc-le-zero}
 use native.Mathlib.Omega.{arith}
 use Rattle.laws.specs.Sum.{sum, but}
 
-pub sum-le : (n : ℕ) (f g : ℕ → ℕ) → ((x : ℕ) → x < n → g x ≤ f x) → sum n g ≤ sum n f
+sum-le : (n : ℕ) (f g : ℕ → ℕ) → ((x : ℕ) → x < n → g x ≤ f x) → sum n g ≤ sum n f
 sum-le zero f g h = omega arith
 sum-le (suc n) f g h = omega (arith, sum-le n f g (λ x l. h x (omega arith)), h n (omega arith))
 

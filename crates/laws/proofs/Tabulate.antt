@@ -28,7 +28,7 @@ module _ {A : Type 0} where
           List·getD-append (tabulate n f) (f n ∷ []) d k (omega (arith, tabulate-length n f)) ∙ below l
 
   -- A list whose elements are the function's values is the list of them.
-  pub tabulated : (d : A) (l : List A) (n : ℕ) (f : ℕ → A) → length l ≡ n → ((k : ℕ) → k < n → getD l k d ≡ f k) → l ≡ tabulate n f
+  tabulated : (d : A) (l : List A) (n : ℕ) (f : ℕ → A) → length l ≡ n → ((k : ℕ) → k < n → getD l k d ≡ f k) → l ≡ tabulate n f
   tabulated d l n f e h =
       ext-getD d l (tabulate n f) (e ∙ sym (tabulate-length n f)) (λ k b. let c : k < n = omega arith in h k c ∙ sym (tabulate-at n f d k c))
 

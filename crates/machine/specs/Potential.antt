@@ -266,8 +266,8 @@ counts (Finishing j) = true
 abbrev pub changesDue : Memory → ℕ → ℕ
 changesDue m t = cond (waiting (content m t) || holds t (headValue m)) 2 0
 
--- How often task x can still change the announcement of t while a mark of p stands there. One that works for the holder
--- with its mark in the head makes none for that.
+-- How often task x can still change the announcement of t while a mark of p stands there: by the help that it is giving,
+-- and by the help that t still takes, unless x gives that already and works for the holder with its mark in the head.
 abbrev pub changesLeft : Memory → (x t : ℕ) → Work → ℕ
 changesLeft m x t w =
     cond (approaches t w) 2 (one (inAnnouncement m x t))

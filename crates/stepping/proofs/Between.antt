@@ -3,7 +3,7 @@ use mathlib.Core.Path.{_≡_, refl, sym, _∙_, ap}
 use mathlib.Core.List.{List, _∷_, map}
 use Prim.Native.Nat.{ℕ}
 use Rattle.laws.proofs.Update.{update-same, update-other, update-held}
-use Rattle.laws.proofs.Tests.{never}
+use Rattle.laws.proofs.Clash.{never}
 use Rattle.refusal.specs.declared.Refusal.{Refusal}
 use Rattle.machine.specs.Calls.{Call, Answer, Event}
 use Rattle.records.specs.declared.record.Task.{Task}

@@ -7,7 +7,7 @@ use mathlib.Core.List.{List, [], _∷_, _++_}
 use Prim.Native.Nat.{ℕ, _<_, _≤_}
 use native.Mathlib.Omega.{arith}
 use lib.ListN.{getD}
-use Rattle.laws.proofs.Tests.{clash, never}
+use Rattle.laws.proofs.Clash.{clash, never}
 use Rattle.cells.specs.Image as words
 use Rattle.machine.specs.Object.{Object}
 use Rattle.machine.specs.Lawful.{Opens}

@@ -4,7 +4,7 @@ use mathlib.Core.Bool.{true, false}
 use mathlib.Core.List.{List}
 use Prim.Native.Nat.{ℕ, _<_, _≤_}
 use lib.ListN.{getD}
-use Rattle.laws.proofs.Tests.{clash}
+use Rattle.laws.proofs.Clash.{clash}
 use Rattle.cells.specs.Layout.{marksWidth}
 use Rattle.table.specs.declared.Shape.{Shape}
 use Rattle.machine.specs.Object.{Object}

@@ -6,7 +6,7 @@ use Prim.Native.Nat.{ℕ, zero, suc, _+_, _≤_}
 use borrow.Author.Tests.{eqb-true, eq-eqb, lt-ltb}
 use lib.Dec.{eqb}
 use lib.ListN.{length}
-use Rattle.laws.proofs.Tests.{never}
+use Rattle.laws.proofs.Clash.{never}
 use Rattle.cells.specs.Ceiling.{ceilingOf}
 use Rattle.cells.specs.Image as cells
 use Rattle.cells.specs.declared.ceiling.Ceiling.{Ceiling}

@@ -9,7 +9,7 @@ use native.Mathlib.Omega.{arith}
 use lib.ListN.{length}
 use Rattle.laws.specs.Update.{update}
 use Rattle.laws.specs.Places.{At}
-use Rattle.laws.proofs.Tests.{clash}
+use Rattle.laws.proofs.Clash.{clash}
 use Rattle.laws.proofs.Update.{update-all}
 use Rattle.laws.proofs.Places.{at-same, at-bound, at-none, at-extended, at-next, Either, at-either}
 use Rattle.machine.specs.Object.{Object}

@@ -3,7 +3,7 @@ use mathlib.Core.Path.{_≡_, refl, sym, _∙_, ap}
 use mathlib.Core.Bool.{false}
 use mathlib.Core.Logic.{_≢_}
 use Prim.Native.Nat.{ℕ, _<_}
-use Rattle.laws.proofs.Tests.{clash}
+use Rattle.laws.proofs.Clash.{clash}
 use Rattle.laws.proofs.Update.{update-same, everywhere}
 use Rattle.machine.specs.Object.{Object}
 use Rattle.machine.specs.Lawful.{Opens}

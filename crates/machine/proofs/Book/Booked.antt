@@ -7,7 +7,7 @@ use native.Mathlib.Omega.{arith}
 use native.Mathlib.Decide.{ℕ-discrete}
 use borrow.Author.Tests.{lt-ltb, le-ltb}
 use Rattle.laws.specs.Update.{update}
-use Rattle.laws.proofs.Tests.{clash, never}
+use Rattle.laws.proofs.Clash.{clash, never}
 use Rattle.laws.proofs.Update.{update-all, update-same, update-other}
 use Rattle.machine.specs.Object.{Object}
 use Rattle.machine.specs.Memory.{HeadValue, Free, Held, Content, Empty, Op, Resp, Memory}

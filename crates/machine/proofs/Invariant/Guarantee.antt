@@ -2,7 +2,7 @@
 use mathlib.Core.Path.{_≡_, refl, sym, _∙_, ap}
 use mathlib.Core.Bool.{true, false}
 use Prim.Native.Nat.{ℕ}
-use Rattle.laws.proofs.Tests.{clash}
+use Rattle.laws.proofs.Clash.{clash}
 use Rattle.laws.proofs.Update.{update-all, update-same}
 use Rattle.cells.specs.Marks.{has}
 use Rattle.cells.proofs.MarkLaws.{has-none, has-add, has-remove}

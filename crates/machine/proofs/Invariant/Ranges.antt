@@ -6,7 +6,7 @@ use Prim.Native.Nat.{ℕ, suc, _%_, _<_}
 use native.Mathlib.Omega.{arith}
 use native.Mathlib.Nat.{mod-lt, one-le-pow}
 use Rattle.laws.specs.Update.{update}
-use Rattle.laws.proofs.Tests.{clash}
+use Rattle.laws.proofs.Clash.{clash}
 use Rattle.laws.proofs.Update.{update-all}
 use Rattle.cells.proofs.MarkLaws.{add-below, remove-below}
 use Rattle.machine.specs.Object.{Object}

@@ -3,7 +3,7 @@ use mathlib.Core.Path.{_≡_, refl, sym, _∙_}
 use mathlib.Core.Bool.{true, false}
 use mathlib.Core.Logic.{_≢_}
 use Prim.Native.Nat.{ℕ}
-use Rattle.laws.proofs.Tests.{clash, never}
+use Rattle.laws.proofs.Clash.{clash, never}
 use Rattle.laws.proofs.Update.{update-all}
 use Rattle.cells.specs.Marks.{has}
 use Rattle.cells.proofs.MarkLaws.{has-none, has-add-other, has-remove-other}

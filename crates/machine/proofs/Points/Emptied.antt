@@ -4,7 +4,7 @@ use mathlib.Core.Bool.{true, false}
 use mathlib.Core.List.{[], _∷_, _++_}
 use Prim.Native.Nat.{ℕ, suc}
 use native.Mathlib.Decide.{ℕ-discrete}
-use Rattle.laws.proofs.Tests.{clash}
+use Rattle.laws.proofs.Clash.{clash}
 use Rattle.laws.proofs.Update.{update-other}
 use Rattle.machine.specs.Object.{Object}
 use Rattle.machine.specs.Lawful.{Opens}

@@ -5,7 +5,7 @@ use mathlib.Core.Bool.{Bool, true, false, cond}
 use mathlib.Core.List.{List}
 use Prim.Native.Nat.{ℕ, suc, _<_}
 use native.Mathlib.Decide.{decLt}
-use Rattle.laws.proofs.Tests.{clash, never}
+use Rattle.laws.proofs.Clash.{clash, never}
 use Rattle.machine.specs.Object.{Object}
 use Rattle.machine.specs.Lawful.{Opens}
 use Rattle.machine.specs.Memory.{Content, Empty, Memory, stateOf, unmarked}

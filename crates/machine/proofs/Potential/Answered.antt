@@ -8,7 +8,7 @@ use native.Mathlib.Omega.{arith}
 use Rattle.laws.specs.Update.{update}
 use Rattle.laws.specs.Decision.{decided}
 use Rattle.laws.specs.Sum.{but}
-use Rattle.laws.proofs.Tests.{clash}
+use Rattle.laws.proofs.Clash.{clash}
 use Rattle.laws.proofs.Update.{update-same, update-other}
 use Rattle.laws.proofs.Sums.{but-change, but-others, but-most}
 use Rattle.laws.proofs.Choice.{pick-le, pick-mono}

@@ -5,7 +5,7 @@ use mathlib.Core.Logic.{_≢_, if-pos}
 use Prim.Native.Nat.{ℕ, _+_, _*_, _≤_, _<_}
 use native.Mathlib.Decide.{ℕ-discrete}
 use native.Mathlib.Omega.{arith}
-use Rattle.laws.proofs.Tests.{clash, never}
+use Rattle.laws.proofs.Clash.{clash, never}
 use Rattle.laws.proofs.Update.{update-same, update-other}
 use Rattle.laws.proofs.Sums.{but-at-most}
 use Rattle.laws.proofs.Choice.{pick-le}

@@ -5,7 +5,7 @@ use Prim.Native.Nat.{ℕ, _≤_, _<_}
 use native.Mathlib.Nat.{zero-add}
 use native.Mathlib.Omega.{arith}
 use lib.ListN.{length}
-use Rattle.laws.proofs.Tests.{clash}
+use Rattle.laws.proofs.Clash.{clash}
 use Rattle.machine.specs.Object.{Object}
 use Rattle.machine.specs.Lawful.{Opens}
 use Rattle.machine.specs.Memory.{image}

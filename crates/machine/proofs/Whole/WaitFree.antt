@@ -7,7 +7,7 @@ use native.Mathlib.Decide.{ℕ-discrete}
 use native.Mathlib.Nat.{mul-add, mul-left-comm, mul-le-mul-left, mul-le-mul-right}
 use native.Mathlib.Omega.{arith}
 use Rattle.laws.proofs.Update.{update-same, update-other}
-use Rattle.laws.proofs.Tests.{never}
+use Rattle.laws.proofs.Clash.{never}
 use Rattle.machine.specs.Object.{Object}
 use Rattle.machine.specs.Lawful.{Opens}
 use Rattle.machine.specs.Machine.{Idle, Task, Next, Go, Turn, End, ends, advance}
