@@ -2,13 +2,13 @@
 use mathlib.Core.Path.{_≡_, refl, ap, sym, _∙_}
 use mathlib.Core.Bool.{Bool, true, false, and-eq-true-iff}
 use mathlib.Core.List.{List, [], _∷_}
-use Prim.Native.Nat.{ℕ, suc, _+_, _-_, _<_, _≤_}
+use Prim.Native.Nat.{ℕ, suc, _+_, _<_, _≤_}
 use native.Mathlib.Numerals.{add-one}
 use native.Mathlib.Omega.{arith}
 use borrow.Author.Tests.{leb-true, ltb-true, ltb-false}
 use lib.Dec.{leb, ltb, eqb}
-use lib.ListN.{length, take, drop, getD, length-drop}
-use lib.Seq.{take-all, length-take-le, getD-take}
+use lib.ListN.{length, take, drop, getD}
+use lib.Seq.{length-take-le, getD-take}
 use Rattle.bytes.specs.Bytes.{indexOf, indexAfter}
 use Rattle.bench_lines.specs.Command.{Fields, last, more, space, lengthened, fieldsOf, decimalOf, digitsOf, zeroDigit, nineDigit, isDigit, letterOf, withOne, withTwo, afterNumber, afterLetter, alone, commandIn, commandOf}
 use Rattle.bench_lines.specs.declared.command.Number.{Number}
@@ -105,10 +105,6 @@ pub no-letter : (field : List ℕ) → (length field ≡ 1 → ⊥) → letterOf
 no-letter [] x = refl
 no-letter (c ∷ []) x = absurd (x refl)
 no-letter (b ∷ c ∷ ds) x = refl
-
--- What stands from a place on, to the end.
-pub to-the-end : (xs : List ℕ) (k : ℕ) → take (length xs - k) (drop k xs) ≡ drop k xs
-to-the-end xs k = take-all (length xs - k) (drop k xs) (omega (arith, length-drop k xs))
 
 -- A line whose first field has not one byte has no form.
 pub command-of-none : (line : List ℕ) (end : ℕ) → end ≡ indexOf space line → end ≤ length line → (end ≡ 1 → ⊥) → Unknown ≡ commandOf line

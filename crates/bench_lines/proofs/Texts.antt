@@ -3,7 +3,7 @@ use mathlib.Core.Path.{_≡_, refl, ap, sym, subst, _∙_}
 use mathlib.Core.Bool.{Bool, true, false}
 use mathlib.Core.List.{List, [], _∷_, _++_, append-assoc, append-nil}
 use Prim.Native.Nat.{ℕ, zero, suc, _+_, _-_, _*_, _/_, _%_, _^_, _<_, _≤_}
-use native.Mathlib.Nat.{pow-succ', pow-le-pow-right}
+use native.Mathlib.Nat.{one-le-pow, pow-succ', pow-le-pow-right}
 use native.Mathlib.Numerals.{add-one}
 use native.Mathlib.Omega.{arith}
 use borrow.Author.Tests.{lt-ltb, le-ltb, leb-true, leb-false}
@@ -36,16 +36,12 @@ small-glyph : (d : ℕ) → d < 10 → glyph d ≡ zeroDigit + d
 small-glyph d h = rw (lt-ltb d 10 h)
 
 -- The fewest digits of a number are its decimal text.
-ten-pos : (k : ℕ) → 0 < 10 ^ k
-ten-pos zero = omega arith
-ten-pos (suc k) = omega (arith, pow-succ' 10 k, ten-pos k)
-
 fewer : (k n : ℕ) → Fewest 10 1 n (suc (suc k)) → (10 ≤ n) × Fewest 10 1 (n / 10) (suc k)
 fewer k n f =
     let e : suc (suc k) - 1 ≡ suc k = omega arith in
     let least : 10 ^ suc k ≤ n = rw e at (f .2 (omega arith)) in
     let e′ : suc k - 1 ≡ k = omega arith in
-    (omega (arith, ten-pos k, pow-succ' 10 k), (omega arith, omega (arith, pow-succ' 10 (suc k)), λ _. rw e′ (omega (arith, pow-succ' 10 k))))
+    (omega (arith, one-le-pow k 10 (omega arith), pow-succ' 10 k), (omega arith, omega (arith, pow-succ' 10 (suc k)), λ _. rw e′ (omega (arith, pow-succ' 10 k))))
 
 pub decimal-digits : (k fuel n : ℕ) → k ≤ fuel → Fewest 10 1 n k → digits 10 k n ≡ decimalIn fuel n
 unfolding decimalIn

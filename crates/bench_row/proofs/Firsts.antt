@@ -4,13 +4,11 @@ use mathlib.Core.Bool.{Bool, true, false}
 use mathlib.Core.List.{List, _++_}
 use Prim.Native.Nat.{ℕ, _<_, _≤_}
 use native.Mathlib.Omega.{arith}
-use borrow.Author.Tests.{leb-true, le-leb, lt-leb}
+use borrow.Author.Tests.{leb-true}
 use lib.Dec.{leb}
 use lib.ListN.{length, take, drop, take-append-drop}
 use Rattle.refusal.specs.declared.Refusal.{Refusal}
-use Rattle.refusal.specs.declared.Refusal.the-variants as cause
-use Rattle.cells.specs.Ceiling.{ceilingOf}
-use Rattle.cells.specs.declared.ceiling.Ceiling.the-variants as ceiling
+use Rattle.cells.proofs.Ceilings.{no-ceiling}
 use Rattle.table.specs.declared.Checked.{Checked}
 use Rattle.table.specs.declared.Checked.the-variants as table
 use Rattle.table.specs.Check.{checkOf}
@@ -38,16 +36,12 @@ first-few n m e = rw e (at (leb n 9) refl)
     at false e = rw e (omega arith)
 
 -- A row of more than eight records is refused by start, however long it is; so nine records stand for any longer row.
-no-ceiling : (n : ℕ) → 8 < n → ceilingOf n ≡ ceiling.Refused cause.Row
-unfolding ceilingOf
-no-ceiling n h = simp (le-leb 1 n (omega arith), lt-leb n 8 h)
-
 pub long-start : (file cs : List ℕ) (ys zs : List Task) → 8 < length ys → 8 < length zs → startOf file cs ys .answer ≡ startOf file cs zs .answer
 unfolding startOf admitStartOf
 long-start file cs ys zs h g = at (checkOf file)
   where
     at : (checked : Checked) → withCells (length cs) (length ys) (withRow (length ys) checked) .answer ≡ withCells (length cs) (length zs) (withRow (length zs) checked) .answer
-    at (table.Accepted shape) = rw (no-ceiling (length ys) h, no-ceiling (length zs) g) refl
+    at (table.Accepted shape) = rw (no-ceiling (length ys) (λ _ l. omega arith), no-ceiling (length zs) (λ _ l. omega arith)) refl
     at (table.Refused c) = refl
 
 -- ---- The calls

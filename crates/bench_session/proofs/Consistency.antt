@@ -1,9 +1,10 @@
 -- The bench stays consistent, whatever is fed.
 use mathlib.Core.Path.{refl}
-use mathlib.Core.Bool.{Bool, true, false, cond, not, _&&_}
+use mathlib.Core.Bool.{not, _&&_}
 use mathlib.Core.List.{List, [], _∷_}
 use Prim.Native.Nat.{ℕ}
 use lib.Dec.{eqb}
+use Rattle.laws.proofs.Choice.{choice}
 use Rattle.table.specs.File.{Bytes}
 use Rattle.bench_lines.specs.declared.command.Command.{Command}
 use Rattle.bench_lines.specs.declared.command.Command.the-variants as command
@@ -29,21 +30,13 @@ module _ (file : List ℕ) (bytes : Bytes file) where
   consistent-act bench h command.Print = h
   consistent-act bench h command.Unknown = h
 
-  either-printed : (b : Bool) (x y : Printing) → Consistent file (x .bench) → Consistent file (y .bench) → Consistent file (cond b x y .bench)
-  either-printed true x y p q = p
-  either-printed false x y p q = q
-
   consistent-serve : (bench : Bench) → Consistent file bench → (c : Command) → Consistent file (serveCommand file bench c .bench)
   unfolding serveCommand
-  consistent-serve bench h c = either-printed (eqb (bench .tasks) 0 && not (isStart c)) (replyPrinted (refuseLine bench)) (actOf file bench c) h (consistent-act bench h c)
-
-  either-consumed : (b : Bool) (x y : Consumed) → Consistent file (x .fed .bench) → Consistent file (y .fed .bench) → Consistent file (cond b x y .fed .bench)
-  either-consumed true x y p q = p
-  either-consumed false x y p q = q
+  consistent-serve bench h c = choice (λ (x : Printing). Consistent file (x .bench)) (eqb (bench .tasks) 0 && not (isStart c)) (replyPrinted (refuseLine bench)) (actOf file bench c) h (consistent-act bench h c)
 
   consistent-byte : (fed : Fed) → Consistent file (fed .bench) → (b : ℕ) → Consistent file (feedByte file fed b .fed .bench)
   unfolding feedByte
-  consistent-byte fed h b = either-consumed (eqb b newline) (endLine file fed) (keepByte fed b) (consistent-serve (fed .bench) h (commandOf (fed .line))) h
+  consistent-byte fed h b = choice (λ (x : Consumed). Consistent file (x .fed .bench)) (eqb b newline) (endLine file fed) (keepByte fed b) (consistent-serve (fed .bench) h (commandOf (fed .line))) h
 
   consistent-feed : (fed : Fed) → Consistent file (fed .bench) → (bs : List ℕ) → Consistent file (feed file fed bs .fed .bench)
   unfolding feed

@@ -5,6 +5,7 @@ use Prim.Native.Nat.{ℕ, suc, _≤_, _<_}
 use native.Mathlib.Omega.{arith}
 use borrow.Author.Tests.{eq-eqb}
 use lib.ListN.{length}
+use Rattle.laws.proofs.Clash.{never}
 use Rattle.cells.proofs.Ceilings.{ceiling-cubed}
 use Rattle.table.specs.File.{Bytes}
 use Rattle.machine.specs.Object.{Object}
@@ -12,8 +13,8 @@ use Rattle.machine.specs.Calls.{Call, Step, Running, Event}
 use Rattle.machine.specs.Run.{Config, Served, start, run}
 use Rattle.machine.specs.History.{Pending, Nothing, Pends, heard, pendingFrom, pending}
 use Rattle.machine.specs.Demand.{StepAccepted}
-use Rattle.machine.proofs.Calls.{Serving, moves, step-task, step-idle, serving}
-use Rattle.machine.proofs.Pending.{pendingOf, pending-is}
+use Rattle.machine.proofs.Steps.Calls.{Serving, moves, step-task, step-idle, serving}
+use Rattle.machine.proofs.Points.Pending.{pendingOf, pending-is}
 use Rattle.records.specs.declared.record.Task.{Task}
 use Rattle.stepping.specs.declared.answer.StartAnswer.the-variants as start
 use Rattle.stepping.specs.Call.{startOf}
@@ -22,7 +23,7 @@ use Rattle.stepping.specs.Runs.{Store, serveOf, runOf, historyOf}
 use Rattle.stepping.proofs.Admission.{ceiling-ranges}
 use Rattle.stepping.proofs.Demands.{history-opened, answer-opened}
 use Rattle.stepping.proofs.Starts.{start-cells, start-row}
-use Rattle.stepping.proofs.Tables.{tabulate-length}
+use Rattle.laws.proofs.Tabulate.{tabulate-length}
 use Rattle.stepping.proofs.Theorem.{start-accepted, start-opens, demands-met}
 
 -- ---- Lists of calls that go on
@@ -69,8 +70,8 @@ pending-timely {n = n} a xs t o k e =
 -- A step of the machine that answers running is one of a pending operation.
 machine-pends : {b : Object} {n : ℕ} {c : Config} {t : ℕ} {z : Served} → Serving b n c (Step t) z → z .answer ≡ Running → pendingOf (c .task t) ≡ Pends (c .task t .operation) (c .task t .steps)
 machine-pends (moves h d v) e = rw d
-machine-pends (step-task h) e = absurd (let z : _≡_ {A = ℕ} 0 1 = cc in omega arith)
-machine-pends (step-idle h d) e = absurd (let z : _≡_ {A = ℕ} 0 1 = cc in omega arith)
+machine-pends (step-task h) e = never cc
+machine-pends (step-idle h d) e = never cc
 
 -- A step that answers running is one of a pending operation.
 pub running-pends : {file : List ℕ} {n q : ℕ} {s : Store} → Opening file n q s → (xs : List Call) (t : ℕ) → serveOf file (Step t) (runOf file xs s) .answer ≡ Running

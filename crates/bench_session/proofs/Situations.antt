@@ -1,14 +1,16 @@
 -- What the bench holds at each point of its input: its first cells and records are what some list of calls leaves after an
 -- accepted start, if there has been one.
 use mathlib.Core.Path.{_≡_, refl, sym, ap, subst, _∙_}
-use mathlib.Core.Bool.{Bool, true, false, cond}
+use mathlib.Core.Bool.{Bool, true, false}
 use mathlib.Core.List.{List, [], _∷_, _++_}
 use Prim.Native.Nat.{ℕ, zero, suc, _≤_}
 use native.Mathlib.Omega.{arith}
 use borrow.Author.Tests.{leb-true, ltb-true}
 use lib.Dec.{leb, ltb}
-use lib.ListN.{length, take, drop, length-set}
-use lib.Seq.{length-front, length-take-le, take-at}
+use lib.ListN.{length, take, length-set}
+use lib.Seq.{length-front}
+use Rattle.laws.proofs.Choice.{choice}
+use Rattle.laws.proofs.Lists.{front-taken}
 use Rattle.machine.specs.Calls.{Call, Begin, Step}
 use Rattle.stepping.specs.Call.{BeginOutcome, beginOf, StepOutcome, stepOf, taskAt}
 use Rattle.stepping.specs.Opening.{Opening}
@@ -45,10 +47,6 @@ few-records n = at (leb n 9) refl
     at : (b : Bool) → leb n 9 ≡ b → firstCount n ≤ 9
     at true e = rw e (leb-true n 9 e)
     at false e = rw e (omega arith)
-
--- A front that is replaced by one as long.
-pub front-taken : {A : Type 0} (k : ℕ) (new old : List A) → k ≤ length old → length new ≡ length (take k old) → take k (new ++ drop k old) ≡ new
-front-taken k new old h e = take-at new (drop k old) k (e ∙ length-take-le k old h)
 
 -- ---- A step and a begin
 
@@ -139,11 +137,7 @@ module _ (file : List ℕ) where
     situation = situation-as (lent-begin file bench (c .nine) t o) (situation-more (c .situation) (Begin t o));
   }
 
-  either : (b : Bool) (x y : Handled) → Consistent file (x .bench) → Consistent file (y .bench) → Consistent file (cond b x y .bench)
-  either true x y p q = p
-  either false x y p q = q
-
   pub consistent-finish : (k t : ℕ) (out : Handled) → Consistent file (out .bench) → Consistent file (finishFrom k file t out .bench)
   unfolding finishFrom
   consistent-finish zero t out c = c
-  consistent-finish (suc k) t out c = either (runsOn (out .reply)) _ out (consistent-finish k t (stepBench file (out .bench) t) (consistent-step (out .bench) c t)) c
+  consistent-finish (suc k) t out c = choice (λ (x : Handled). Consistent file (x .bench)) (runsOn (out .reply)) _ out (consistent-finish k t (stepBench file (out .bench) t) (consistent-step (out .bench) c t)) c

@@ -7,6 +7,7 @@ use native.Mathlib.Omega.{arith}
 use lib.Dec.{leb}
 use lib.ListN.{length, take}
 use lib.Seq.{length-front, length-take-le}
+use Rattle.laws.proofs.Lists.{front-taken}
 use Rattle.table.specs.File.{Bytes, shapeOf}
 use Rattle.records.specs.declared.record.Task.{Task}
 use Rattle.stepping.specs.declared.answer.StartAnswer.{StartAnswer}
@@ -19,7 +20,7 @@ use Rattle.bench_session.specs.declared.run.Bench.{Bench}
 use Rattle.bench_session.specs.Run.{cellCount, startHeld, startBench, opened}
 use Rattle.bench_session.proofs.Openings.{start-sizes}
 use Rattle.stepping.proofs.Between.{store-same}
-use Rattle.bench_session.proofs.Situations.{Consistent, during, few-cells, few-records, front-taken}
+use Rattle.bench_session.proofs.Situations.{Consistent, during, few-cells, few-records}
 
 -- Fewer than nine records are lent as they are counted.
 counted : (k : ℕ) → firstCount k ≤ 8 → firstCount k ≡ k

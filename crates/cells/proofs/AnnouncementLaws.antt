@@ -1,6 +1,6 @@
 -- Laws of the announcement: decode after encode and back, injectivity, forms.
 use mathlib.Core.Path.{_≡_, refl, ap}
-use mathlib.Core.Bool.{Bool, true, false, _&&_}
+use mathlib.Core.Bool.{Bool, true, false, _&&_, and-eq-true-iff}
 use mathlib.Core.List.{[], _∷_}
 use Prim.Native.Nat.{ℕ, _/_, _%_, _^_, _<_}
 use borrow.Author.Tests.{eqb-true}
@@ -15,7 +15,6 @@ use Rattle.cells.specs.declared.announcement.Announcement.the-variants.{
 use Rattle.cells.proofs.Fields.{unpack-pack}
 use Rattle.cells.proofs.Codec.{Codec, content-read, marks-read, word-injective}
 use Rattle.cells.proofs.Forms.{Formed, formed, form-of, Shape, written-form, form-whole, form-range, form-set}
-use Rattle.cells.proofs.Tests.{and-left, and-right}
 
 pub announcement-codec : Codec announcementValues announcementFrom
 announcement-codec = record { content-of = content; marks-of = lowest }
@@ -43,10 +42,10 @@ unfolding announcementFieldsInForm payloadInForm
 announcement-again o m k g p t = at (eqb k 0) refl (eqb k 1) refl
   where
     gap : g ≡ 0
-    gap = eqb-true g 0 (and-left (eqb g 0) (payloadInForm o k p) t)
+    gap = eqb-true g 0 (and-eq-true-iff _ _ .0 t .0)
 
     carried : payloadInForm o k p ≡ true
-    carried = and-right (eqb g 0) (payloadInForm o k p) t
+    carried = and-eq-true-iff (eqb g 0) (payloadInForm o k p) .0 t .1
 
     at : (a : Bool) → eqb k 0 ≡ a → (b : Bool) → eqb k 1 ≡ b → announcementValues (announcementAt k p) m ≡ m ∷ k ∷ g ∷ p ∷ []
     at true e b d =

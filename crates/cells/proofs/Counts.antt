@@ -11,6 +11,7 @@ use lib.Count.{ones, onesIn, ones-cat}
 use lib.ListN.{length, take, getD}
 use lib.Pow.{mod-pow-add, pow-pos}
 use lib.Seq.{take-suc}
+use Rattle.laws.proofs.Choice.{pick-le}
 use Rattle.cells.specs.Count.{marksBelow, marksIn, markCount}
 use Rattle.cells.specs.Layout.{marksWidth}
 use Rattle.cells.specs.Marks.{has}
@@ -35,15 +36,11 @@ unfolding marksBelow
 count-ones zero w = let z : w % 2 ^ 0 ≡ 0 = omega arith in rw z no-ones
 count-ones (suc k) w = rw (← one-add k, mod-pow-add w 1 k, ones-cat k (w / 2 ^ k % 2) (w % 2 ^ k) (mod-lt w (pow-pos k)), bit-count k w, count-ones k w)
 
-at-most-one : (b : Bool) → cond b 1 0 ≤ 1
-at-most-one true = omega arith
-at-most-one false = omega arith
-
 -- There are at most as many marks as tasks.
 pub marks-at-most : (k w : ℕ) → marksBelow k w ≤ k
 unfolding marksBelow
 marks-at-most zero w = omega arith
-marks-at-most (suc k) w = omega (arith, marks-at-most k w, at-most-one (has k w))
+marks-at-most (suc k) w = omega (arith, marks-at-most k w, pick-le (has k w) 1)
 
 count-append : (xs ys : List ℕ) → markCount (xs ++ ys) ≡ markCount xs + markCount ys
 unfolding markCount

@@ -1,6 +1,6 @@
 -- Words in form, for fields of any widths above the marks and any test of the fields.
 use mathlib.Core.Path.{_≡_, ap, sym, _∙_}
-use mathlib.Core.Bool.{Bool, true, _&&_}
+use mathlib.Core.Bool.{Bool, true, _&&_, and-eq-true-iff}
 use mathlib.Core.List.{List, _∷_}
 use Prim.Native.Nat.{ℕ, _/_, _^_, _<_}
 use native.Mathlib.Omega.{arith}
@@ -13,7 +13,6 @@ use Rattle.cells.specs.Layout.{marksWidth, marks}
 use Rattle.cells.proofs.MarkLaws.{SetsBit, set-high, set-low, set-below}
 use Rattle.cells.proofs.Codec.{Codec}
 use Rattle.cells.proofs.Fields.{unpack-low, unpack-pack, pack-unpack, pack-below}
-use Rattle.cells.proofs.Tests.{and-left, and-right}
 
 -- What a word in form has: no bits beside its fields, marks of tasks below n, and fields that pass the test.
 pub record Formed (ws : List ℕ) (fields : List ℕ → Bool) (n w : ℕ) : Type 0 where
@@ -26,12 +25,9 @@ module _ (ws : List ℕ) (fields : List ℕ → Bool) (n w : ℕ) where
   pub formed : inForm ws fields n w ≡ true → Formed ws fields n w
   unfolding inForm marksInForm
   formed e =
-      let tail : ltb (marks w) (2 ^ n) && fields (unpack ws w) ≡ true = and-right (ltb w (2 ^ total ws)) (ltb (marks w) (2 ^ n) && fields (unpack ws w)) e in
-      record {
-        small = ltb-true w (2 ^ total ws) (and-left (ltb w (2 ^ total ws)) (ltb (marks w) (2 ^ n) && fields (unpack ws w)) e);
-        few = ltb-true (marks w) (2 ^ n) (and-left (ltb (marks w) (2 ^ n)) (fields (unpack ws w)) tail);
-        passed = and-right (ltb (marks w) (2 ^ n)) (fields (unpack ws w)) tail;
-      }
+      let first = and-eq-true-iff (ltb w (2 ^ total ws)) (ltb (marks w) (2 ^ n) && fields (unpack ws w)) .0 e in
+      let second = and-eq-true-iff (ltb (marks w) (2 ^ n)) (fields (unpack ws w)) .0 (first .1) in
+      record { small = ltb-true w (2 ^ total ws) (first .0); few = ltb-true (marks w) (2 ^ n) (second .0); passed = second .1 }
 
   pub form-of : Formed ws fields n w → inForm ws fields n w ≡ true
   unfolding inForm marksInForm

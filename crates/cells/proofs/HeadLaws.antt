@@ -1,6 +1,6 @@
 -- Laws of the head: decode after encode and back, injectivity, forms.
 use mathlib.Core.Path.{_≡_, refl}
-use mathlib.Core.Bool.{Bool, true, false, _&&_, and-true, cond}
+use mathlib.Core.Bool.{Bool, true, false, _&&_, and-true, cond, and-eq-true-iff}
 use mathlib.Core.List.{[], _∷_}
 use Prim.Native.Nat.{ℕ, _+_, _-_, _/_, _%_, _^_, _<_}
 use native.Mathlib.Numerals.{add-one}
@@ -16,7 +16,6 @@ use Rattle.cells.specs.declared.head.Head.{Head}
 use Rattle.cells.specs.declared.head.Head.the-variants.{Free, Held}
 use Rattle.cells.proofs.Codec.{Codec, content-read, marks-read, word-injective}
 use Rattle.cells.proofs.Forms.{Formed, formed, form-of, Shape, written-form, form-whole, form-range, form-set}
-use Rattle.cells.proofs.Tests.{and-right}
 
 pub head-codec : Codec headValues headFrom
 head-codec = record { content-of = content; marks-of = lowest }
@@ -57,7 +56,7 @@ head-shape b c d s n = record { codec = head-codec; ranged = head-ranged s n; bl
         let r : ℕ = value w / 2 ^ b % 2 ^ c in
         let h : ℕ = value w / 2 ^ b / 2 ^ c % 2 ^ d in
         let quiet : Bool = cond (eqb h 0) (eqb r 0) true in
-        head-again (marks w) q r h (and-right (leb h (holderBound n)) quiet (and-right (ltb q s) (leb h (holderBound n) && quiet) t))
+        head-again (marks w) q r h (and-eq-true-iff (leb h (holderBound n)) quiet .0 (and-eq-true-iff (ltb q s) (leb h (holderBound n) && quiet) .0 t .1) .1)
 
 -- A head is read as it was written, and its word has its marks; different heads or marks have different words.
 module _ (x : Head) (m : ℕ) (f : Fit headWidths (headValues x m)) where

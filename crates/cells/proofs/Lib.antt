@@ -1,5 +1,4 @@
 pub mod MarkLaws
-pub mod Tests
 pub mod Fields
 pub mod Codec
 pub mod Forms

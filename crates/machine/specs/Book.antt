@@ -2,8 +2,8 @@
 use mathlib.Core.Path.{_≡_}
 use mathlib.Core.List.{List, [], _∷_, _++_}
 use Prim.Native.Nat.{ℕ, suc, _<_}
+use Rattle.laws.specs.Update.{update}
 use Rattle.machine.specs.Object.{Object}
-use Rattle.machine.specs.Update.{update}
 use Rattle.machine.specs.Calls.{Call, Begin, Step, Answer, Begun, Running, Ended, Refused, Event}
 
 -- An operation that was begun: the place of its begin call in the list identifies it.

@@ -4,6 +4,7 @@ use mathlib.Core.Bool.{false, cond}
 use mathlib.Core.List.{List, [], _∷_}
 use Prim.Native.Nat.{ℕ, zero, suc, _<_}
 use lib.Dec.{eqb}
+use Rattle.laws.specs.Places.{At}
 use Rattle.machine.specs.Object.{Object}
 use Rattle.machine.specs.Calls.{Call, Begin, Step, Answer, Begun, Running, Ended, Refused, Event}
 use Rattle.machine.specs.Book.{Operation}
@@ -51,11 +52,6 @@ abbrev pub Rest : Object → List Event → Type 0
 Rest b es = (t : ℕ) → Reads b (pending es t)
 
 -- ---- Linearizability, after Herlihy and Wing
-
--- The element x stands at a place of a list, counted from 0.
-pub data At {A : Type 0} : List A → ℕ → A → Type 0 where
-  here : {x : A} {xs : List A} → At (x ∷ xs) zero x
-  later : {x y : A} {xs : List A} {i : ℕ} → At xs i x → At (y ∷ xs) (suc i) x
 
 -- The operation x was begun: its begin call stands at its place, and was accepted.
 abbrev pub Begins : List Event → Operation → Type 0

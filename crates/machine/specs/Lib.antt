@@ -1,6 +1,5 @@
 pub mod Object
 pub mod Lawful
-pub mod Update
 pub mod Calls
 pub mod Memory
 pub mod Machine

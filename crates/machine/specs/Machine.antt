@@ -1,11 +1,13 @@
 -- The step machine: the phases of a task, the one access of a step (plan), the access itself (perform), and what follows from it (after).
 use mathlib.Core.Bool.{Bool, true, false, cond}
+use mathlib.Core.Logic.{ite}
 use Prim.Native.Nat.{ℕ, suc, _%_}
 use native.Mathlib.Decide.{ℕ-discrete}
+use Rattle.laws.specs.Update.{update}
+use Rattle.laws.specs.Decision.{decided}
 use Rattle.cells.specs.Marks.{has, add, remove}
 use Rattle.machine.specs.Object.{Object}
 use Rattle.machine.specs.Memory.{HeadValue, Free, Held, Content, Empty, Op, Resp, Cell, Memory, stateOf, outcomeOf, unmarked, head-dec, announcement-dec}
-use Rattle.machine.specs.Update.{either, update}
 
 -- Where a task is in its operation, with what it has saved: h a head, a an announcement, j the task that it works for,
 -- o an operation to apply, v the own response.
@@ -83,10 +85,6 @@ plan b i p x (ClearExit h v) = SwapHead h (cleared h)
 plan b i p x (ReleaseExit h v) = SwapHead h (released i h)
 plan b i p x (Retract v) = WriteAnnouncement i (unmarked Empty)
 
-abbrev pub decided : {P : Type 0} → Dec P → Bool
-decided (yes _) = true
-decided (no _) = false
-
 -- What an access gives back.
 unfoldable pub result : Access → Memory → Result
 result NoAccess m = Nothing
@@ -102,9 +100,9 @@ perform NoAccess m = m
 perform ReadHead m = m
 perform (ReadAnnouncement j) m = m
 perform (WriteAnnouncement j a) m = record { head = m .head; announcement = update (m .announcement) j a }
-perform (SwapHead h h′) m = record { head = either (head-dec (m .head) h) h′ (m .head); announcement = m .announcement }
+perform (SwapHead h h′) m = record { head = ite (head-dec (m .head) h) h′ (m .head); announcement = m .announcement }
 perform (SwapAnnouncement j a a′) m =
-    record { head = m .head; announcement = either (announcement-dec (m .announcement j) a) (update (m .announcement) j a′) (m .announcement) }
+    record { head = m .head; announcement = ite (announcement-dec (m .announcement j) a) (update (m .announcement) j a′) (m .announcement) }
 
 -- The word that was read, an unmarked empty one if none was.
 abbrev pub headRead : Result → Cell HeadValue
@@ -159,9 +157,9 @@ afterLinkHelped h j a (Resp v) = Go (Release h j a)
 -- By the own mark in the head, and by whether the task holds the head.
 abbrev pub afterExit : Bool → ℕ → ℕ → Cell HeadValue → HeadValue → Next
 afterExit true i v h (Free q) = Go (ReleaseExit h v)
-afterExit true i v h (Held q j r) = either (ℕ-discrete j i) (Go (ClearExit h v)) (Go (ReleaseExit h v))
+afterExit true i v h (Held q j r) = ite (ℕ-discrete j i) (Go (ClearExit h v)) (Go (ReleaseExit h v))
 afterExit false i v h (Free q) = Go (Retract v)
-afterExit false i v h (Held q j r) = either (ℕ-discrete j i) (Go (LinkExit h v)) (Go (Retract v))
+afterExit false i v h (Held q j r) = ite (ℕ-discrete j i) (Go (LinkExit h v)) (Go (Retract v))
 
 -- What follows from the record and the result of the access alone.
 unfoldable pub after : Object → (i priority operation : ℕ) → Phase → Result → Next

@@ -1,10 +1,12 @@
 -- The potential of an operation: a bound of the own steps that it may still take, whatever the other tasks do.
 use mathlib.Core.Bool.{Bool, true, false, _||_, _&&_, not, cond}
-use Prim.Native.Nat.{ℕ, zero, suc, _+_, _*_, _-_, _≤_, _<_}
+use mathlib.Core.Logic.{ite}
+use Prim.Native.Nat.{ℕ, _+_, _*_, _-_, _≤_, _<_}
 use native.Mathlib.Decide.{ℕ-discrete, decLe}
+use Rattle.laws.specs.Decision.{decided}
+use Rattle.laws.specs.Sum.{sum, but}
 use Rattle.machine.specs.Memory.{HeadValue, Free, Held, Content, Empty, Op, Resp, Cell, Memory, head-dec, announcement-dec}
-use Rattle.machine.specs.Update.{either}
-use Rattle.machine.specs.Machine.{Phase, Idle, ReadOnly, Announce, Poll, LoadHead, LinkHead, LoadPriority, LoadOwn, Apply, ReloadApply, LoadHelped, LinkHelped, Validate, HandOver, ReloadHandOver, Release, ReloadRelease, ClearHead, ReloadClear, LoadExit, LinkExit, ClearExit, ReleaseExit, Retract, Task, decided}
+use Rattle.machine.specs.Machine.{Phase, Idle, ReadOnly, Announce, Poll, LoadHead, LinkHead, LoadPriority, LoadOwn, Apply, ReloadApply, LoadHelped, LinkHelped, Validate, HandOver, ReloadHandOver, Release, ReloadRelease, ClearHead, ReloadClear, LoadExit, LinkExit, ClearExit, ReleaseExit, Retract}
 use Rattle.machine.specs.Kind.{Kind, Off, Reading, Opening, Looping, Exiting, Retracting, kind}
 use Rattle.machine.specs.Run.{Config}
 use Rattle.machine.specs.Invariant.{inHead, inAnnouncement, headValue, content}
@@ -142,14 +144,6 @@ unanswered m (Held q j r) = waiting (content m j)
 
 -- ---- Sums over the tasks
 
-abbrev pub sum : ℕ → (ℕ → ℕ) → ℕ
-sum zero f = 0
-sum (suc n) f = sum n f + f n
-
--- All but task p.
-abbrev pub but : ℕ → (ℕ → ℕ) → ℕ → ℕ
-but p f x = either (ℕ-discrete x p) 0 (f x)
-
 -- What the changes of cells by a task before the next stage change may still cost another.
 abbrev pub rankOf : Config → ℕ → ℕ
 rankOf c x = row (c .task x .phase) .rank (held (headValue (c .memory))) (inHead (c .memory) x) (answered (content (c .memory) x))
@@ -169,11 +163,11 @@ skips p (Finishing j) = false
 
 -- From the priority k up to task p, around the n tasks.
 abbrev pub gap : (n p k : ℕ) → ℕ
-gap n p k = either (decLe k p) (p - k) (p + n - k)
+gap n p k = ite (decLe k p) (p - k) (p + n - k)
 
 -- How often a task can still apply somebody else before it applies p.
 abbrev pub dist : (n p k : ℕ) → Work → ℕ
-dist n p k w = either (ℕ-discrete k p) (cond (skips p w) n 0) (gap n p k)
+dist n p k w = ite (ℕ-discrete k p) (cond (skips p w) n 0) (gap n p k)
 
 abbrev pub distOf : (n p : ℕ) → Config → ℕ → ℕ
 distOf n p c x = dist n p (c .task x .priority) (row (c .task x .phase) .work)
@@ -215,7 +209,7 @@ reserve n = 59 * n + 32
 -- What the stage changes up to the apply of task p may cost, by the sum d of the distances.
 abbrev pub stageWeights : (n p d : ℕ) → Memory → HeadValue → ℕ
 stageWeights n p d m (Free q) = d * cycleWeight n + applyWeight n
-stageWeights n p d m (Held q j r) = either (ℕ-discrete j p) 0 (d * cycleWeight n + applyWeight n + clearWeight n + cond (waiting (content m j)) handOverWeight 0)
+stageWeights n p d m (Held q j r) = ite (ℕ-discrete j p) 0 (d * cycleWeight n + applyWeight n + clearWeight n + cond (waiting (content m j)) handOverWeight 0)
 
 -- The own place: in the loop, with a stale word, with the mark in the head lost.
 abbrev pub placeOf : Memory → ℕ → Row → ℕ
@@ -268,16 +262,16 @@ counts (Approaching j) = false
 counts (Marking j) = true
 counts (Finishing j) = true
 
--- What is owed to task t: 2 while it waits or holds the head.
-abbrev pub owed : Memory → ℕ → ℕ
-owed m t = cond (waiting (content m t) || holds t (headValue m)) 2 0
+-- The changes that help for task t still takes: 2 while it waits or holds the head.
+abbrev pub changesDue : Memory → ℕ → ℕ
+changesDue m t = cond (waiting (content m t) || holds t (headValue m)) 2 0
 
--- How often task x can still change the announcement of t while a mark of p stands there. One that works for the holder
--- with its mark in the head owes nothing more.
-abbrev pub owes : Memory → (x t : ℕ) → Work → ℕ
-owes m x t w =
+-- How often task x can still change the announcement of t while a mark of p stands there: by the help that it is giving,
+-- and by the help that t still takes, unless x gives that already and works for the holder with its mark in the head.
+abbrev pub changesLeft : Memory → (x t : ℕ) → Work → ℕ
+changesLeft m x t w =
     cond (approaches t w) 2 (one (inAnnouncement m x t))
-    + cond (worksFor t w && (holds t (headValue m) && inHead m x)) 0 (owed m t)
+    + cond (worksFor t w && (holds t (headValue m) && inHead m x)) 0 (changesDue m t)
 
 -- The part of the head: due while the own mark stands in it or the task holds it.
 abbrev pub atHead : Memory → ℕ → Bool
@@ -290,11 +284,11 @@ abbrev pub headPart : ℕ → Config → ℕ → ℕ
 headPart n c i = cond (atHead (c .memory) i) (headLoad n c i) 0
 
 -- The part of the announcement of task t: due while the own mark stands in it.
-abbrev pub debts : ℕ → Config → (i t : ℕ) → ℕ
-debts n c i t = sum n (but i (λ x. owes (c .memory) x t (row (c .task x .phase) .work)))
+abbrev pub changesByOthers : ℕ → Config → (i t : ℕ) → ℕ
+changesByOthers n c i t = sum n (but i (λ x. changesLeft (c .memory) x t (row (c .task x .phase) .work)))
 
 abbrev pub markPart : ℕ → Config → (i t : ℕ) → ℕ
-markPart n c i t = cond (inAnnouncement (c .memory) i t) (announcementWeight * (1 + debts n c i t)) 0
+markPart n c i t = cond (inAnnouncement (c .memory) i t) (announcementWeight * (1 + changesByOthers n c i t)) 0
 
 -- What is set aside before the links of the head and of an announcement, by the parts that are due then.
 abbrev pub headAside : ℕ → Work → ℕ

@@ -2,11 +2,12 @@
 use mathlib.Core.Bool.{Bool, true, false, cond}
 use mathlib.Core.List.{List, [], _∷_}
 use Prim.Native.Nat.{ℕ, suc}
+use Rattle.machine.specs.Demand.{Shown}
 use lib.Dec.{ltb}
+use Rattle.laws.specs.Update.{update}
 use Rattle.machine.specs.Object.{Object}
 use Rattle.machine.specs.Calls.{Call, Begin, Step, Answer, Begun, Running, Ended, Refused, Event}
 use Rattle.machine.specs.Memory.{Memory, image}
-use Rattle.machine.specs.Update.{update}
 use Rattle.machine.specs.Machine.{Phase, Idle, ReadOnly, Announce, Task, plan, result, perform, Next, Go, Turn, End, after, advance}
 use Rattle.machine.specs.Kind.{kind, off}
 
@@ -89,3 +90,11 @@ run b n (x ∷ xs) c = run b n xs (serve b n x c .config)
 abbrev pub history : Object → ℕ → List Call → Config → List Event
 history b n [] c = []
 history b n (x ∷ xs) c = record { call = x; answer = serve b n x c .answer } ∷ history b n xs (serve b n x c .config)
+
+-- What a run of the machine shows.
+abbrev pub machineShows : Object → (n q : ℕ) → Shown Memory
+machineShows b n q = record {
+  answer = λ xs x. serve b n x (run b n xs (start q)) .answer;
+  history = λ xs. history b n xs (start q);
+  cells = λ xs. run b n xs (start q) .memory;
+}

@@ -1,6 +1,6 @@
 -- Which number has which phase, and the task that a phase works for.
 use mathlib.Core.Path.{_≡_, refl, sym, ap, subst, _∙_}
-use mathlib.Core.Bool.{Bool, true, false, cond, _&&_}
+use mathlib.Core.Bool.{Bool, true, false, cond, _&&_, and-eq-true-iff}
 use mathlib.Core.List.{List, [], _∷_}
 use Prim.Native.Nat.{ℕ, zero, suc, _+_, _*_, _-_, _%_, _≤_, _<_}
 use native.Mathlib.Omega.{arith}
@@ -8,7 +8,6 @@ use borrow.Author.Tests.{ne-eqb, le-leb, lt-leb, le-ltb, ltb-true, leb-true}
 use lib.Arith.{lt-of-le-ne}
 use lib.Dec.{eqb, leb, ltb}
 use lib.ListN.{length, getD}
-use Rattle.cells.proofs.Tests.{and-left, and-right}
 use Rattle.refusal.specs.declared.Refusal.the-variants as cause
 use Rattle.records.specs.declared.phase.Phase.{Phase}
 use Rattle.records.specs.declared.phase.Phase.the-variants.{Idle, ReadOnly, Announce, Poll, LoadHead, LinkHead, LoadPriority, LoadOwn, LoadExit, LinkExit, ClearExit, ReleaseExit, Retract, ClearHead, ReloadClear, Apply, ReloadApply, LoadHelped, LinkHelped, Validate, HandOver, ReloadHandOver, Release, ReloadRelease}
@@ -171,8 +170,9 @@ module _ (n k : ℕ) (h : namesTask n k ≡ true) where
   inside : (first : ℕ) → 16 ≤ first → first % 8 ≡ 0 → leb first k && leb k (first + 7) ≡ true → k - first < n
   unfolding namesTask
   inside first l m t =
-      let low : first ≤ k = leb-true first k (and-left (leb first k) (leb k (first + 7)) t) in
-      let high : k ≤ first + 7 = leb-true k (first + 7) (and-right (leb first k) (leb k (first + 7)) t) in
+      let both = and-eq-true-iff (leb first k) (leb k (first + 7)) .0 t in
+      let low : first ≤ k = leb-true first k (both .0) in
+      let high : k ≤ first + 7 = leb-true k (first + 7) (both .1) in
       let named : ltb (k % 8) n ≡ true = rw (le-ltb k 16 (omega arith)) at h in
       omega (arith, ltb-true (k % 8) n named)
 

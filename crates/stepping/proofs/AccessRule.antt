@@ -5,6 +5,7 @@ use mathlib.Core.List.{List}
 use Prim.Native.Nat.{ℕ, _+_}
 use lib.Dec.{eqb, ltb}
 use lib.ListN.{length, getD}
+use Rattle.laws.proofs.Choice.{choice}
 use Rattle.refusal.specs.declared.Refusal.{Refusal}
 use Rattle.refusal.specs.declared.Refusal.the-variants as cause
 use Rattle.table.specs.declared.Shape.{Shape}
@@ -21,7 +22,6 @@ use Rattle.stepping.specs.Step.{touched, performOf, cellInForm, TaskOutc
 use Rattle.stepping.specs.Call.{admitOf, refuseStep, touch, stepFrom, stepIn, stepTask}
 use Rattle.stepping.specs.Access.{accessFrom, accessIn, accessOf, givenBack}
 use Rattle.stepping.specs.Statement.{Unrefused, MakesAccess, FollowsResult}
-use Rattle.stepping.proofs.Refused.{choice}
 
 -- An outcome that made an access, unless it is refused.
 record Makes (cells : List ℕ) (a : Access) (out : TaskOutcome) : Type 0 where

@@ -1,7 +1,7 @@
 -- An access to encoded cells: the word that it touches, what it gives back and what it leaves.
 use mathlib.Core.Path.{_≡_, refl, ap, sym}
 use mathlib.Core.Bool.{true, cond}
-use mathlib.Core.Logic.{_↔_}
+use mathlib.Core.Logic.{_↔_, ite}
 use mathlib.Core.List.{List, _∷_}
 use Prim.Native.Nat.{ℕ, zero, suc, _+_, _<_, _≤_}
 use native.Mathlib.Numerals.{add-one}
@@ -10,13 +10,15 @@ use borrow.Author.Tests.{ne-eqb}
 use lib.Dec.{eqb}
 use lib.ListN.{length, getD, set}
 use lib.Seq.{set-getD}
+use Rattle.laws.specs.Update.{update}
+use Rattle.laws.specs.Decision.{decided}
+use Rattle.laws.proofs.Decision.{cond-ite}
 use Rattle.cells.specs.Layout.{marksWidth, kindIn}
 use Rattle.table.specs.declared.Shape.{Shape}
 use Rattle.machine.specs.Object.{Object}
 use Rattle.machine.specs.Memory.{Cell, Content, Empty, Memory, head-dec, announcement-dec}
-use Rattle.machine.specs.Update.{either, update}
 use Rattle.machine.specs.Machine as machine
-use Rattle.machine.specs.Machine.{NoAccess, ReadHead, ReadAnnouncement, WriteAnnouncement, SwapHead, SwapAnnouncement, Nothing, HeadRead, AnnouncementRead, decided, result, perform}
+use Rattle.machine.specs.Machine.{NoAccess, ReadHead, ReadAnnouncement, WriteAnnouncement, SwapHead, SwapAnnouncement, result, perform}
 use Rattle.machine.specs.Invariant.{content}
 use Rattle.machine.specs.Form.{HeadFormed, AnnouncementFormed, MemoryFormed}
 use Rattle.transition.specs.declared.access.Found.the-variants.{Word}
@@ -25,12 +27,7 @@ use Rattle.transition.specs.Object.{ObjectTable, objectOf}
 use Rattle.transition.specs.Encoding.{encodeHead, encodeAnnouncement, encodeAccess, encodeResult}
 use Rattle.transition.proofs.EncodedCells.{head-same, head-in-form, announcement-empty, announcement-same, announcement-in-form}
 use Rattle.stepping.specs.Encoding.{encodeCells}
-use Rattle.stepping.proofs.Tables.{tabulate-length, tabulate-at, tabulate-set}
-
--- A choice by a test that says a decision.
-cond-either : {A B P : Type 0} (f : A → B) (d : Dec P) (x y : A) → cond (decided d) (f x) (f y) ≡ f (either d x y)
-cond-either f (yes e) x y = refl
-cond-either f (no e) x y = refl
+use Rattle.laws.proofs.Tabulate.{tabulate-length, tabulate-at, tabulate-set}
 
 -- The announcements stand behind the head.
 module _ (n : ℕ) (m : Memory) where
@@ -102,9 +99,9 @@ module _ (file : List ℕ) (shape : Shape) (table : ObjectTable file shape) (n :
     perform-simulates ReadHead f = refl
     perform-simulates (ReadAnnouncement j) f = set-getD (encodeCells n m) (j + 1) 0
     perform-simulates (WriteAnnouncement j a) f = cell-set n m j f a
-    perform-simulates (SwapHead h g) f = rw (head-same file shape table n most (m .head) (ranged .head) h f, cond-either encodeHead (head-dec (m .head) h) g (m .head))
+    perform-simulates (SwapHead h g) f = rw (head-same file shape table n most (m .head) (ranged .head) h f, cond-ite encodeHead (head-dec (m .head) h) g (m .head))
     perform-simulates (SwapAnnouncement j a c) f = rw (announcement-swap j a (f .0) (f .1)) (by (announcement-dec (m .announcement j) a))
       where
-        by : (d : Dec (m .announcement j ≡ a)) → set (encodeCells n m) (j + 1) (cond (decided d) (encodeAnnouncement c) (getD (encodeCells n m) (j + 1) 0)) ≡ encodeCells n (record { head = m .head; announcement = either d (update (m .announcement) j c) (m .announcement) })
+        by : (d : Dec (m .announcement j ≡ a)) → set (encodeCells n m) (j + 1) (cond (decided d) (encodeAnnouncement c) (getD (encodeCells n m) (j + 1) 0)) ≡ encodeCells n (record { head = m .head; announcement = ite d (update (m .announcement) j c) (m .announcement) })
         by (yes e) = cell-set n m j (f .0) c
         by (no e) = set-getD (encodeCells n m) (j + 1) 0

@@ -7,8 +7,10 @@ use native.Mathlib.Omega.{arith}
 use borrow.Author.Tests.{leb-true}
 use lib.Dec.{leb}
 use lib.ListN.{getD}
+use Rattle.laws.specs.Below.{allBelow}
+use Rattle.laws.proofs.Below.{all-at}
+use Rattle.laws.proofs.Clash.{never}
 use Rattle.refusal.specs.declared.Refusal.{Refusal}
-use Rattle.cells.proofs.Tests.{holds-at}
 use Rattle.cells.specs.Ceiling.{ceilings, ceilingOf}
 use Rattle.cells.specs.declared.ceiling.Ceiling.{Ceiling}
 use Rattle.cells.specs.declared.ceiling.Ceiling.the-variants as ceiling
@@ -26,13 +28,13 @@ pub record Ranges (n c : ℕ) : Type 0 where
   pub low : c ≤ 512000
 
 refused : {reason : Refusal} {c : ℕ} → ceiling.Refused reason ≡ ceiling.Steps c → ⊥
-refused e = let z : _≡_ {A = ℕ} 0 1 = cc in omega arith
+refused e = never cc
 
 small : ℕ → Bool
 small k = leb (getD ceilings k 0) 512000
 
 pub ceiling-ranges : (n c : ℕ) → ceilingOf n ≡ ceiling.Steps c → Ranges n c
-unfolding ceilingOf small
+unfolding ceilingOf small allBelow
 ceiling-ranges n c e = at (leb 1 n) (leb n 8) refl refl
   where
     at : (a b : Bool) → leb 1 n ≡ a → leb n 8 ≡ b → Ranges n c
@@ -40,7 +42,7 @@ ceiling-ranges n c e = at (leb 1 n) (leb n 8) refl refl
         let r : getD ceilings (n - 1) 0 ≡ c = cc (simp (p, q) at e) in
         let l : n ≤ 8 = leb-true n 8 q in
         let s : 1 ≤ n = leb-true 1 n p in
-        record { some = omega arith; few = l; low = rw r at (leb-true (getD ceilings (n - 1) 0) 512000 (holds-at 8 small refl (n - 1) (omega arith))) }
+        record { some = omega arith; few = l; low = rw r at (leb-true (getD ceilings (n - 1) 0) 512000 (all-at 8 small refl (n - 1) (omega arith))) }
     at true false p q = absurd (refused (simp (p, q) at e))
     at false b p q = absurd (refused (simp p at e))
 
@@ -50,8 +52,8 @@ admitted-ranges n c shape (table.Accepted found) e = at (ceilingOf n) refl e
   where
     at : (x : Ceiling) → ceilingOf n ≡ x → withCeiling found x ≡ admitted.Admits c shape → Ranges n c
     at (ceiling.Steps d) p q = let r : d ≡ c = cc in ceiling-ranges n c (rw r at p)
-    at (ceiling.Refused reason) p q = let z : _≡_ {A = ℕ} 0 1 = cc in absurd (omega arith)
-admitted-ranges n c shape (table.Refused reason) e = let z : _≡_ {A = ℕ} 0 1 = cc in absurd (omega arith)
+    at (ceiling.Refused reason) p q = never cc
+admitted-ranges n c shape (table.Refused reason) e = never cc
 
 pub admit-ranges : (file : List ℕ) (n c : ℕ) (shape : Shape) → admitOf file n ≡ admitted.Admits c shape → Ranges n c
 unfolding admitOf

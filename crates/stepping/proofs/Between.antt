@@ -1,13 +1,11 @@
 -- Calls that stand between those of a run: refused ones, and those on other memory, leave the run as it is.
 use mathlib.Core.Path.{_≡_, refl, sym, _∙_, ap}
-use mathlib.Core.Logic.{_≢_}
-use mathlib.Core.List.{List, [], _∷_, map}
+use mathlib.Core.List.{List, _∷_, map}
 use Prim.Native.Nat.{ℕ}
-use native.Mathlib.Omega.{arith}
+use Rattle.laws.proofs.Update.{update-same, update-other, update-held}
+use Rattle.laws.proofs.Clash.{never}
 use Rattle.refusal.specs.declared.Refusal.{Refusal}
-use Rattle.machine.specs.Update.{update}
 use Rattle.machine.specs.Calls.{Call, Answer, Event}
-use Rattle.machine.proofs.Update.{update-all, update-same, update-other}
 use Rattle.records.specs.declared.record.Task.{Task}
 use Rattle.stepping.specs.declared.answer.StepAnswer as declared
 use Rattle.stepping.specs.declared.answer.StepAnswer.the-variants as step
@@ -18,13 +16,9 @@ use Rattle.stepping.specs.declared.answer.StartAnswer.the-variants as st
 use Rattle.stepping.specs.Call.{beginSaid, stepSaid, StartOutcome}
 use Rattle.stepping.specs.Runs.{Store, serveOf, runOf, historyOf}
 use Rattle.stepping.specs.Lent as lent
-use Rattle.stepping.specs.Lent.{Memory, Places, storeAt, LentCall, Says, startAnswered, serveLent, OfRun, IsRefused, Apart, Around, done, own, refused, apart, SameRun}
+use Rattle.stepping.specs.Lent.{Memory, Places, storeAt, LentCall, Says, startAnswered, serveLent, OfRun, IsRefused, Apart, done, own, refused, apart, SameRun}
 use Rattle.stepping.specs.Statement.{Between, OpensNext}
 use Rattle.stepping.proofs.Refused.{refused-start, refused-begin-row, refused-step-row}
-
--- Writing what a place holds leaves every place as it was.
-written-same : {A : Type 0} (f : ℕ → A) (j : ℕ) (x : A) → x ≡ f j → (k : ℕ) → update f j x k ≡ f k
-written-same f j x e = update-all f j x (λ k v. v ≡ f k) e (λ k _. refl)
 
 -- What a run hands on, from two equations.
 pub store-same : {cells cells′ : List ℕ} {row row′ : List Task} → cells ≡ cells′ → row ≡ row′ → _≡_ {A = Store} (record { cells = cells; row = row }) (record { cells = cells′; row = row′ })
@@ -53,15 +47,15 @@ module _ (p : Places) (m : Memory) where
       let (c, e) = start-cause _ r in
       let same = refused-start (m .cells (at .cells)) (m .row (at .row)) (m .table (at .table)) c e in
       store-same
-      (written-same (m .cells) (at .cells) _ (ap (λ (out : StartOutcome). out .cells) same) (p .cells))
-      (written-same (m .row) (at .row) _ (ap (λ (out : StartOutcome). out .row) same) (p .row))
+      (update-held (m .cells) (at .cells) _ (ap (λ (out : StartOutcome). out .cells) same) (p .cells))
+      (update-held (m .row) (at .row) _ (ap (λ (out : StartOutcome). out .row) same) (p .row))
   refused-keeps (lent.LentBegin table row i o) r =
       let (c, e) = begin-cause _ r in
-      store-same refl (written-same (m .row) row _ (refused-begin-row (m .table table) (m .row row) i o c e) (p .row))
+      store-same refl (update-held (m .row) row _ (refused-begin-row (m .table table) (m .row row) i o c e) (p .row))
   refused-keeps (lent.LentStep at i) r =
       let (c, e) = step-cause _ r in
       let (row, cells) = refused-step-row (m .table (at .table)) (m .row (at .row)) i (m .cells (at .cells)) c e in
-      store-same (written-same (m .cells) (at .cells) _ cells (p .cells)) (written-same (m .row) (at .row) _ row (p .row))
+      store-same (update-held (m .cells) (at .cells) _ cells (p .cells)) (update-held (m .row) (at .row) _ row (p .row))
 
   -- A call on other memory leaves them too.
   apart-keeps : (x : LentCall) → Apart p x → storeAt p (serveLent x m .memory) ≡ storeAt p m
@@ -121,7 +115,7 @@ between p m m′ xs es (own {x = x} {y = y} {a = a} {es = more-es} r said more) 
 
 opened : (a : StartAnswer) → startAnswered a ≡ lent.RunOpened → a ≡ start.Started
 opened start.Started e = refl
-opened (start.Refused c) e = absurd (let z : _≡_ {A = ℕ} 0 1 = cc in omega arith)
+opened (start.Refused c) e = never cc
 
 pub opens-next : (p : Places) → OpensNext p
 opens-next p m e = (opened _ e, store-same (update-same (m .cells) (p .cells) _) (update-same (m .row) (p .row) _))

@@ -6,7 +6,7 @@ use Rattle.cells.specs.Field.{pack, unpack, total}
 use Rattle.cells.specs.Form.{marksInForm, inForm, headFieldsInForm, headInForm}
 use Rattle.cells.specs.Image.{image}
 use Rattle.cells.specs.Layout.{headWord}
-use Rattle.table.specs.Below.{allBelow}
+use Rattle.laws.specs.Below.{allBelow}
 use Rattle.table.specs.Cases.{case, flag}
 use Rattle.table.specs.Cases as file
 use Rattle.table.proofs.Cases as file-proofs

@@ -7,13 +7,14 @@ use mathlib.Core.List.{List, [], _∷_, _++_}
 use Prim.Native.Nat.{ℕ, _<_, _≤_}
 use native.Mathlib.Omega.{arith}
 use lib.ListN.{getD}
+use Rattle.laws.proofs.Clash.{clash, never}
 use Rattle.cells.specs.Image as words
 use Rattle.machine.specs.Object.{Object}
 use Rattle.machine.specs.Lawful.{Opens}
 use Rattle.machine.specs.Memory.{Empty, image}
 use Rattle.machine.specs.Machine.{Next, Go, Turn, End}
 use Rattle.machine.specs.Kind.{off}
-use Rattle.machine.specs.Run.{Config, Served, answerOf, start, serve, run, history}
+use Rattle.machine.specs.Run.{Config, Served, answerOf, start, serve, run, history, machineShows}
 use Rattle.machine.specs.Calls.{Call, Refused}
 use Rattle.machine.specs.History.{Pends, pending}
 use Rattle.machine.specs.Demand.{Shown, Demand}
@@ -21,14 +22,13 @@ use Rattle.machine.specs.Ending.{EndsChanging}
 use Rattle.machine.specs.Invariant.{content}
 use Rattle.machine.specs.Points.{nextAccess}
 use Rattle.machine.specs.Potential.{bound}
-use Rattle.machine.proofs.Calls.{Serving, begins, begin-task, begin-operation, begin-pending, moves, step-task, step-idle, serving}
-use Rattle.machine.proofs.Demands.{machineShows, demand}
-use Rattle.machine.proofs.Emptied.{emptyings}
-use Rattle.machine.proofs.Formed.{formed-run}
-use Rattle.machine.proofs.OwnSteps.{own-record}
-use Rattle.machine.proofs.Pending.{pending-is}
-use Rattle.machine.proofs.Update.{clash}
-use Rattle.machine.proofs.WaitFree.{bound-ceiling, pending-steps}
+use Rattle.machine.proofs.Steps.Calls.{Serving, begins, begin-task, begin-operation, begin-pending, moves, step-task, step-idle, serving}
+use Rattle.machine.proofs.Whole.Demands.{demand}
+use Rattle.machine.proofs.Points.Emptied.{emptyings}
+use Rattle.machine.proofs.Invariant.Ranges.{formed-run}
+use Rattle.machine.proofs.Points.OwnSteps.{own-record}
+use Rattle.machine.proofs.Points.Pending.{pending-is}
+use Rattle.machine.proofs.Whole.WaitFree.{bound-ceiling, pending-steps}
 use Rattle.transition.specs.Encoding.{encodeAccess}
 use Rattle.transition.proofs.Lawful.{object-lawful}
 use Rattle.stepping.specs.Step.{cellInForm}
@@ -50,15 +50,15 @@ reached b n q some good xs = record {
 
 -- The machine refuses with 7 to 10 alone.
 step-answers : (k : ℕ) (y : Next) (number : ℕ) → answerOf k y ≡ Refused number → ⊥
-step-answers k (Go f) number e = let z : _≡_ {A = ℕ} 0 1 = cc in omega arith
-step-answers k (Turn f) number e = let z : _≡_ {A = ℕ} 0 1 = cc in omega arith
-step-answers k (End v) number e = let z : _≡_ {A = ℕ} 0 1 = cc in omega arith
+step-answers k (Go f) number e = never cc
+step-answers k (Turn f) number e = never cc
+step-answers k (End v) number e = never cc
 
 within : {j k : ℕ} → Refused j ≡ Refused k → 7 ≤ j → j ≤ 10 → (7 ≤ k) × (k ≤ 10)
 within {j} {k} e low high = let same : j ≡ k = cc in (omega arith, omega arith)
 
 refuses : {b : Object} {n : ℕ} {c : Config} {x : Call} {z : Served} → Serving b n c x z → (k : ℕ) → z .answer ≡ Refused k → (7 ≤ k) × (k ≤ 10)
-refuses (begins h k d) number e = absurd (let z : _≡_ {A = ℕ} 0 1 = cc in omega arith)
+refuses (begins h k d) number e = never cc
 refuses (begin-task h) number e = within e (omega arith) (omega arith)
 refuses (begin-operation h k) number e = within e (omega arith) (omega arith)
 refuses (begin-pending h k d) number e = within e (omega arith) (omega arith)

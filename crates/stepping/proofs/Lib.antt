@@ -1,4 +1,3 @@
-pub mod Lists
 pub mod Admission
 pub mod Ready
 pub mod Parts
@@ -6,7 +5,6 @@ pub mod Refused
 pub mod Local
 pub mod AccessRule
 pub mod ByRecord
-pub mod Tables
 pub mod Records
 pub mod Accesses
 pub mod Planned

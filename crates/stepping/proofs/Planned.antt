@@ -4,6 +4,7 @@ use mathlib.Core.Bool.{true, false}
 use mathlib.Core.List.{List}
 use Prim.Native.Nat.{ℕ, _<_, _≤_}
 use lib.ListN.{getD}
+use Rattle.laws.proofs.Clash.{clash}
 use Rattle.cells.specs.Layout.{marksWidth}
 use Rattle.table.specs.declared.Shape.{Shape}
 use Rattle.machine.specs.Object.{Object}
@@ -12,7 +13,6 @@ use Rattle.machine.specs.Machine as machine
 use Rattle.machine.specs.Machine.{Idle, ReadOnly, Announce, Poll, LoadHead, LinkHead, LoadPriority, LoadOwn, Apply, ReloadApply, LoadHelped, LinkHelped, Validate, HandOver, ReloadHandOver, Release, ReloadRelease, ClearHead, ReloadClear, LoadExit, LinkExit, ClearExit, ReleaseExit, Retract, plan}
 use Rattle.machine.specs.Kind.{kind, off}
 use Rattle.machine.specs.Form.{MemoryFormed, PhaseFormed, OperationFormed}
-use Rattle.machine.proofs.Update.{clash}
 use Rattle.transition.specs.Transition.{usedInRange}
 use Rattle.transition.specs.Object.{ObjectTable, objectOf}
 use Rattle.transition.specs.Encoding.{kept, encodeAccess}

@@ -1,12 +1,12 @@
 -- What a record in form tells a step: the ranges of priority and steps, and that its access touches one of the cells.
 use mathlib.Core.Path.{_≡_, refl}
-use mathlib.Core.Bool.{Bool, true, false, _&&_}
+use mathlib.Core.Bool.{Bool, true, false, _&&_, and-eq-true-iff}
 use mathlib.Core.List.{List}
 use Prim.Native.Nat.{ℕ, _+_, _≤_, _<_}
 use native.Mathlib.Omega.{arith}
 use borrow.Author.Tests.{eqb-true, ltb-true, lt-ltb}
 use lib.Dec.{eqb, ltb}
-use Rattle.cells.proofs.Tests.{and-left, and-right}
+use Rattle.laws.proofs.Clash.{never}
 use Rattle.table.specs.declared.Shape.{Shape}
 use Rattle.records.specs.declared.record.Task.{Task}
 use Rattle.records.specs.declared.phase.Phase.{Phase}
@@ -22,8 +22,8 @@ use Rattle.records.proofs.Phases.{WorksBelow, works}
 -- A record is read as a phase only if it is in form and its number is that phase's.
 parts : (fits : Bool) (read : PhaseRead) (f : Phase) → readInForm fits read ≡ Known f → (fits ≡ true) × (read ≡ Known f)
 parts true (Known g) f e = (refl, e)
-parts false (Known g) f e = absurd (let z : _≡_ {A = ℕ} 0 1 = cc in omega arith)
-parts fits (Refused reason) f e = absurd (let z : _≡_ {A = ℕ} 0 1 = cc in omega arith)
+parts false (Known g) f e = never cc
+parts fits (Refused reason) f e = never cc
 
 module _ (shape : Shape) (n c : ℕ) (t : Task) where
   pub read-parts : (f : Phase) → readRecord shape n c t ≡ Known f → (recordInForm shape n c t ≡ true) × (phaseOf (t .phase) ≡ Known f)
@@ -44,10 +44,10 @@ module _ (shape : Shape) (n c : ℕ) (t : Task) where
       let d = b && eqb (t .announcement) 0 in
       let f = d && eqb (t .payload) 0 in
       let g = f && eqb (t .steps) 0 in
-      let counted : g ≡ true = and-left g (eqb (t .operation) 0) e in
-      let first : a ≡ true = and-left a (eqb (t .head) 0) (and-left b (eqb (t .announcement) 0) (and-left d (eqb (t .payload) 0) (and-left f (eqb (t .steps) 0) counted))) in
-      let none : t .steps ≡ 0 = eqb-true (t .steps) 0 (and-right f (eqb (t .steps) 0) counted) in
-      record { priority = ltb-true (t .priority) n first; steps = omega (arith, none); names = rw (lt-ltb (t .phase) 16 (omega arith)) }
+      let counted = and-eq-true-iff f (eqb (t .steps) 0) .0 (and-eq-true-iff g (eqb (t .operation) 0) .0 e .0) in
+      let saved = and-eq-true-iff b (eqb (t .announcement) 0) .0 (and-eq-true-iff d (eqb (t .payload) 0) .0 (counted .0) .0) in
+      let none : t .steps ≡ 0 = eqb-true (t .steps) 0 (counted .1) in
+      record { priority = ltb-true (t .priority) n (and-eq-true-iff a (eqb (t .head) 0) .0 (saved .0) .0); steps = omega (arith, none); names = rw (lt-ltb (t .phase) 16 (omega arith)) }
 
   pending-formed : pendingInForm shape n c t ≡ true → Formed
   unfolding pendingInForm numbersInForm
@@ -56,10 +56,11 @@ module _ (shape : Shape) (n c : ℕ) (t : Task) where
       let b = a && ltb (t .operation) (shape .operations) in
       let d = b && ltb (t .priority) n in
       let f = d && ltb (t .steps) c in
-      let counted : f ≡ true = and-left f (savedPayloadInForm (shape .operations) t) (and-left (numbersInForm shape n c t) (wordsInForm shape n t) e) in
-      let placed : d ≡ true = and-left d (ltb (t .steps) c) counted in
-      let few : t .steps < c = ltb-true (t .steps) c (and-right d (ltb (t .steps) c) counted) in
-      record { priority = ltb-true (t .priority) n (and-right b (ltb (t .priority) n) placed); steps = omega (arith, few); names = and-left a (ltb (t .operation) (shape .operations)) (and-left b (ltb (t .priority) n) placed) }
+      let numbers = and-eq-true-iff (numbersInForm shape n c t) (wordsInForm shape n t) .0 e .0 in
+      let counted = and-eq-true-iff d (ltb (t .steps) c) .0 (and-eq-true-iff f (savedPayloadInForm (shape .operations) t) .0 numbers .0) in
+      let placed = and-eq-true-iff b (ltb (t .priority) n) .0 (counted .0) in
+      let few : t .steps < c = ltb-true (t .steps) c (counted .1) in
+      record { priority = ltb-true (t .priority) n (placed .1); steps = omega (arith, few); names = and-eq-true-iff a (ltb (t .operation) (shape .operations)) .0 (placed .0) .0 }
 
   formed : recordInForm shape n c t ≡ true → Formed
   unfolding recordInForm

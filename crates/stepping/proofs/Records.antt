@@ -7,6 +7,8 @@ use native.Mathlib.Omega.{arith}
 use borrow.Author.Tests.{lt-ltb, lt-leb, ne-eqb}
 use lib.Dec.{eqb, leb, ltb}
 use lib.Pow.{pow-pos}
+use Rattle.laws.proofs.Clash.{clash}
+use Rattle.laws.proofs.Choice.{choice}
 use Rattle.cells.specs.Field.{pack}
 use Rattle.cells.specs.Form.{headInForm, announcementInForm}
 use Rattle.cells.specs.Layout.{marksWidth, headWord, announcementWord}
@@ -18,8 +20,7 @@ use Rattle.machine.specs.Machine as machine
 use Rattle.machine.specs.Machine.{Idle, ReadOnly, Announce, Poll, LoadHead, LinkHead, LoadPriority, LoadOwn, Apply, ReloadApply, LoadHelped, LinkHelped, Validate, HandOver, ReloadHandOver, Release, ReloadRelease, ClearHead, ReloadClear, LoadExit, LinkExit, ClearExit, ReleaseExit, Retract}
 use Rattle.machine.specs.Kind.{Kind, Off, Reading, Opening, Looping, Exiting, Retracting, kind, off}
 use Rattle.machine.specs.Form.{HeadFormed, AnnouncementFormed, PhaseFormed, OperationFormed, TaskFormed}
-use Rattle.machine.proofs.Update.{clash}
-use Rattle.machine.proofs.Calls.{off-idle}
+use Rattle.machine.proofs.Steps.Calls.{off-idle}
 use Rattle.records.specs.declared.phase.Phase.{Phase}
 use Rattle.records.specs.declared.phase.Phase.the-variants as phase
 use Rattle.records.specs.declared.phase.PhaseRead.the-variants.{Known}
@@ -38,11 +39,6 @@ record KeptFormed (shape : Shape) (n : ℕ) (k : Kept) : Type 0 where
   payload : cond (leb 16 (phaseNumber (k .phase)) && leb (phaseNumber (k .phase)) 31) (ltb (k .payload) (shape .operations)) true ≡ true
   head : headInForm (shape .states) n (k .head) ≡ true
   announcement : announcementInForm (shape .operations) n (k .announcement) ≡ true
-
--- A test under a condition.
-either-holds : (b : Bool) {t : Bool} → t ≡ true → cond b t true ≡ true
-either-holds true e = e
-either-holds false e = refl
 
 module _ (file : List ℕ) (shape : Shape) (table : ObjectTable file shape) (n : ℕ) (some : 1 ≤ n) (most : n ≤ marksWidth) where
   abbrev object : Object
@@ -90,7 +86,7 @@ module _ (file : List ℕ) (shape : Shape) (table : ObjectTable file shape) (n :
           read = known (f j) (for-task j (omega arith));
           pending = ne-eqb (phaseNumber (f j)) 0 (λ z. omega (arith, number j));
           names = rw (named, lt-ltb j n below) (or-true (ltb (phaseNumber (f j)) 16));
-          payload = either-holds (leb 16 (phaseNumber (f j)) && leb (phaseNumber (f j)) 31) (lt-ltb v (shape .operations) range);
+          payload = choice (λ (b : Bool). b ≡ true) (leb 16 (phaseNumber (f j)) && leb (phaseNumber (f j)) 31) _ _ (lt-ltb v (shape .operations) range) refl;
           head = head;
           announcement = announcement;
         }

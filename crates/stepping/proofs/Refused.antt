@@ -1,11 +1,12 @@
 -- A refused call changes nothing.
 use mathlib.Core.Path.{_≡_, ap, _∙_}
-use mathlib.Core.Bool.{Bool, true, false, cond}
 use mathlib.Core.List.{List}
 use Prim.Native.Nat.{ℕ, _+_}
-use native.Mathlib.Omega.{arith}
+use lib.Seq.{set-getD}
 use lib.Dec.{eqb, ltb}
 use lib.ListN.{length, getD, set}
+use Rattle.laws.proofs.Clash.{never}
+use Rattle.laws.proofs.Choice.{choice}
 use Rattle.refusal.specs.declared.Refusal.{Refusal}
 use Rattle.refusal.specs.declared.Refusal.the-variants as cause
 use Rattle.table.specs.declared.Shape.{Shape}
@@ -28,12 +29,6 @@ use Rattle.records.specs.Record.{idleTask, readRecord}
 use Rattle.transition.specs.Transition.{planOf, usedInRange}
 use Rattle.stepping.specs.Step.{touched, cellInForm, answerOf, TaskOutcome, ledTo}
 use Rattle.stepping.specs.Call.{withRow, admitOf, StartOutcome, refuseStart, withCells, filled, startOf, admitStartOf, refuseBegin, beginFrom, beginIn, beginTask, refuseStep, touch, stepFrom, stepIn, stepTask, taskAt, beginOf, stepOf}
-use Rattle.stepping.proofs.Lists.{set-held}
-
--- What holds of both sides of a choice holds of the choice.
-pub choice : {A : Type 0} (P : A → Type 0) (b : Bool) (x y : A) → P x → P y → P (cond b x y)
-choice P true x y p q = p
-choice P false x y p q = q
 
 -- ---- Start
 
@@ -47,7 +42,7 @@ module _ (cells : List ℕ) (row : List Task) where
   start-kept : (x : Admitted) → StartKept (filled cells row (withCells (length cells) (length row) x))
   start-kept (admitted.Refused c) = start-refused c
   start-kept (admitted.Admits c shape) =
-      choice (λ found. StartKept (filled cells row found)) (eqb (length cells) (length row + 1)) _ _ (record { same = λ reason e. absurd (let z : _≡_ {A = ℕ} 0 1 = cc in omega arith) }) (start-refused cause.Cells)
+      choice (λ found. StartKept (filled cells row found)) (eqb (length cells) (length row + 1)) _ _ (record { same = λ reason e. never cc }) (start-refused cause.Cells)
 
   pub refused-start : (file : List ℕ) (reason : Refusal) → startOf file cells row .answer ≡ start.Refused reason → startOf file cells row ≡ refuseStart cells row reason
   unfolding startOf admitStartOf
@@ -66,7 +61,7 @@ module _ (t : Task) where
     begin-from : (shape : Shape) (read : PhaseRead) → BeginKept (beginFrom file shape o t read)
     begin-from shape (record-phase.Refused c) = begin-refused c
     begin-from shape (record-phase.Known f) =
-        choice BeginKept (eqb (t .phase) 0) _ _ (record { same = λ reason e. absurd (let z : _≡_ {A = ℕ} 0 1 = cc in omega arith) }) (begin-refused cause.Pending)
+        choice BeginKept (eqb (t .phase) 0) _ _ (record { same = λ reason e. never cc }) (begin-refused cause.Pending)
 
     begin-kept : (x : Admitted) → BeginKept (beginIn file n i o t x)
     begin-kept (admitted.Refused c) = begin-refused c
@@ -85,9 +80,9 @@ module _ (t : Task) where
 
 -- What an accepted step answers refuses nothing.
 accepts : (t : Task) (x : Next) (reason : Refusal) → answerOf t x ≡ step.Refused reason → ⊥
-accepts t (Go f v h a) reason e = let z : _≡_ {A = ℕ} 0 1 = cc in omega arith
-accepts t Turn reason e = let z : _≡_ {A = ℕ} 0 1 = cc in omega arith
-accepts t (End r) reason e = let z : _≡_ {A = ℕ} 0 1 = cc in omega arith
+accepts t (Go f v h a) reason e = never cc
+accepts t Turn reason e = never cc
+accepts t (End r) reason e = never cc
 
 module _ (file cells : List ℕ) (n i : ℕ) (t : Task) where
   record StepKept (out : TaskOutcome) : Type 0 where
@@ -125,10 +120,10 @@ module _ (file : List ℕ) (row : List Task) (i : ℕ) where
   pub refused-begin-row : (o : ℕ) (reason : Refusal) → beginOf file row i o .answer ≡ begin.Refused reason → beginOf file row i o .row ≡ row
   unfolding beginOf
   refused-begin-row o reason e =
-      ap (λ (out : Begin). set row i (out .task)) (refused-begin (taskAt row i) file (length row) i o reason e) ∙ set-held row i (idleTask 0)
+      ap (λ (out : Begin). set row i (out .task)) (refused-begin (taskAt row i) file (length row) i o reason e) ∙ set-getD row i (idleTask 0)
 
   pub refused-step-row : (cells : List ℕ) (reason : Refusal) → stepOf file cells row i .answer ≡ step.Refused reason → (stepOf file cells row i .row ≡ row) × (stepOf file cells row i .cells ≡ cells)
   unfolding stepOf
   refused-step-row cells reason e =
       let kept = refused-step file cells (length row) i (taskAt row i) reason e in
-      (ap (λ (out : TaskOutcome). set row i (out .task)) kept ∙ set-held row i (idleTask 0), ap (λ (out : TaskOutcome). out .cells) kept)
+      (ap (λ (out : TaskOutcome). set row i (out .task)) kept ∙ set-getD row i (idleTask 0), ap (λ (out : TaskOutcome). out .cells) kept)

@@ -40,7 +40,7 @@ use Rattle.stepping.specs.Step.{advanceOf, answerOf, TaskOutcome}
 use Rattle.stepping.specs.Call.{admitOf, refuseStep, stepFrom, stepTask, stepOf, begunTask, refuseBegin, beginFrom, beginTask, beginOf, taskAt, stepSaid, beginSaid}
 use Rattle.stepping.specs.Encoding.{encodeCells, encodeRow, encodeConfig, encodeServed}
 use Rattle.stepping.specs.Runs.{serveOf, runOf, historyOf}
-use Rattle.stepping.proofs.Tables.{tabulate-length, tabulate-at, tabulate-set}
+use Rattle.laws.proofs.Tabulate.{tabulate-length, tabulate-at, tabulate-set}
 use Rattle.stepping.proofs.Records.{pending-read, pending-number, idle-kept, idle-read}
 use Rattle.stepping.proofs.Accesses.{cells-length, touched-in-form, result-simulates, perform-simulates}
 use Rattle.stepping.proofs.Planned.{plan-formed, entry-in-range}

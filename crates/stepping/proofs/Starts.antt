@@ -3,10 +3,10 @@ use mathlib.Core.Path.{_≡_, refl, ap, _∙_}
 use mathlib.Core.Bool.{Bool, true, false}
 use mathlib.Core.List.{List, [], _∷_, _++_}
 use Prim.Native.Nat.{ℕ, zero, suc, _+_, _≤_}
-use native.Mathlib.Omega.{arith}
 use borrow.Author.Tests.{eqb-true, eq-eqb, lt-ltb}
 use lib.Dec.{eqb}
 use lib.ListN.{length}
+use Rattle.laws.proofs.Clash.{never}
 use Rattle.cells.specs.Ceiling.{ceilingOf}
 use Rattle.cells.specs.Image as cells
 use Rattle.cells.specs.declared.ceiling.Ceiling.{Ceiling}
@@ -26,9 +26,10 @@ use Rattle.stepping.specs.declared.answer.StartAnswer.the-variants as an
 use Rattle.stepping.specs.Call.{withRow, idleRow, startOf, withCells, admitStartOf}
 use Rattle.stepping.specs.Statement.{Startable, StartOpens}
 use Rattle.transition.specs.Encoding.{encodeTask}
-use Rattle.stepping.specs.Encoding.{tabulate, encodeCells, encodeRow}
+use Rattle.stepping.specs.Encoding.{encodeCells, encodeRow}
+use Rattle.laws.specs.Tabulate.{tabulate}
 use Rattle.stepping.proofs.Admission.{ceiling-ranges}
-use Rattle.stepping.proofs.Tables.{tabulate-replicate}
+use Rattle.laws.proofs.Tabulate.{tabulate-replicate}
 
 -- The cells and the row of the machine's start.
 pub start-cells : (n q : ℕ) → cells.image n q ≡ encodeCells n (image q)
@@ -62,15 +63,15 @@ module _ (file cells : List ℕ) (row : List Task) where
     where
       counted : (shape : Shape) (c : ℕ) → checkOf file ≡ table.Accepted shape → ceilingOf (length row) ≡ ceiling.Steps c → (b : Bool) → eqb (length cells) (length row + 1) ≡ b → withCells (length cells) (length row) (withRow (length row) (checkOf file)) .answer ≡ answer.Started → Found
       counted shape c e d true l s = record { shape = shape; accepted = e; some = ceiling-ranges (length row) c d .some; few = ceiling-ranges (length row) c d .few; long = eqb-true (length cells) (length row + 1) l }
-      counted shape c e d false l s = absurd (let f = rw (e, d, l) at s in let z : _≡_ {A = ℕ} 0 1 = cc f in omega arith)
+      counted shape c e d false l s = let f = rw (e, d, l) at s in never (cc f)
 
       limited : (shape : Shape) → checkOf file ≡ table.Accepted shape → (d : Ceiling) → ceilingOf (length row) ≡ d → withCells (length cells) (length row) (withRow (length row) (checkOf file)) .answer ≡ answer.Started → Found
       limited shape e (ceiling.Steps c) d s = counted shape c e d (eqb (length cells) (length row + 1)) refl s
-      limited shape e (ceiling.Refused r) d s = absurd (let f = rw (e, d) at s in let z : _≡_ {A = ℕ} 0 1 = cc f in omega arith)
+      limited shape e (ceiling.Refused r) d s = let f = rw (e, d) at s in never (cc f)
 
       checked : (k : Checked) → checkOf file ≡ k → withCells (length cells) (length row) (withRow (length row) (checkOf file)) .answer ≡ answer.Started → Found
       checked (table.Accepted shape) e s = limited shape e (ceilingOf (length row)) refl s
-      checked (table.Refused r) e s = absurd (let f = rw e at s in let z : _≡_ {A = ℕ} 0 1 = cc f in omega arith)
+      checked (table.Refused r) e s = let f = rw e at s in never (cc f)
 
   pub startable : Startable file cells row
   unfolding startOf

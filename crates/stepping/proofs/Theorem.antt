@@ -10,8 +10,8 @@ use Rattle.cells.proofs.Images.{image-injective}
 use Rattle.machine.specs.Run.{history, start}
 use Rattle.machine.specs.Calls.{Step}
 use Rattle.machine.specs.History.{Pends, pending}
-use Rattle.machine.proofs.OwnSteps.{next-step}
-use Rattle.machine.proofs.WaitFree.{bound-ceiling}
+use Rattle.machine.proofs.Points.OwnSteps.{next-step}
+use Rattle.machine.proofs.Whole.WaitFree.{bound-ceiling}
 use Rattle.records.specs.declared.record.Task.{Task}
 use Rattle.transition.specs.Encoding.{encodeAccess}
 use Rattle.stepping.specs.declared.answer.Begin.{Begin}

@@ -1,17 +1,13 @@
 -- How a configuration of the step machine stands in cells and a row of records.
-use mathlib.Core.List.{List, [], _∷_, _++_}
-use Prim.Native.Nat.{ℕ, zero, suc}
+use mathlib.Core.List.{List, _∷_}
+use Prim.Native.Nat.{ℕ}
+use Rattle.laws.specs.Tabulate.{tabulate}
 use Rattle.machine.specs.Memory.{Memory}
 use Rattle.machine.specs.Machine as machine
 use Rattle.machine.specs.Run.{Config, Served}
 use Rattle.records.specs.declared.record.Task.{Task}
 use Rattle.transition.specs.Encoding.{encodeHead, encodeAnnouncement, encodeTask}
 use Rattle.stepping.specs.Runs.{Store, Outcome}
-
--- The values of a function at the numbers below n, in order.
-unfoldable pub tabulate : {A : Type 0} → ℕ → (ℕ → A) → List A
-tabulate zero f = []
-tabulate (suc n) f = tabulate n f ++ (f n ∷ [])
 
 -- The cells of n tasks: the head, then the announcements in the order of the tasks.
 abbrev pub encodeCells : ℕ → Memory → List ℕ

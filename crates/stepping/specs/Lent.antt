@@ -4,8 +4,8 @@ use mathlib.Core.Path.{_≡_}
 use mathlib.Core.Logic.{_≢_}
 use mathlib.Core.List.{List, [], _∷_, map}
 use Prim.Native.Nat.{ℕ}
+use Rattle.laws.specs.Update.{update}
 use Rattle.refusal.specs.Number.{numberOf}
-use Rattle.machine.specs.Update.{update}
 use Rattle.machine.specs.Calls as run
 use Rattle.machine.specs.Calls.{Call, Answer, Event}
 use Rattle.records.specs.declared.record.Task.{Task}

@@ -4,16 +4,17 @@ use mathlib.Core.Path.{_≡_, sym, ap, _∙_}
 use mathlib.Core.Bool.{true}
 use mathlib.Core.List.{List}
 use borrow.Author.Tests.{ltb-true, lt-ltb}
+use Rattle.laws.proofs.Choice.{taken}
 use Rattle.refusal.specs.declared.Refusal.the-variants.{NextState}
 use Rattle.table.specs.declared.Shape.{Shape}
 use Rattle.table.specs.declared.Checked.{Checked}
 use Rattle.table.specs.declared.Checked.the-variants.{Accepted, Refused}
-use Rattle.table.proofs.Below.{all-at}
+use Rattle.laws.proofs.Below.{all-at}
 use Rattle.table.specs.File.{Bytes}
 use Rattle.table.specs.Entries.{entryOf, entryInRange, operationInRange, entriesInRange}
 use Rattle.table.specs.Layout.{layoutOf}
 use Rattle.table.specs.Check.{withEntries, checkOf}
-use Rattle.table.proofs.Fitting.{Fitting, layout-fitting, taken, refused}
+use Rattle.table.proofs.Fitting.{Fitting, layout-fitting, refused}
 
 module _ (file : List ℕ) (shape : Shape) where
   -- One tested entry: its next state is one of the table's states.

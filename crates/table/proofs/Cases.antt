@@ -1,7 +1,7 @@
 -- The marked cases about the object file hold.
 use mathlib.Core.Path.{_≡_, refl}
 use mathlib.Core.List.{map}
-use Rattle.table.specs.Below.{allBelow, anyBelow}
+use Rattle.laws.specs.Below.{allBelow, anyBelow}
 use Rattle.table.specs.File.{endsInMark, shapeOf}
 use Rattle.table.specs.Entries.{entryOf, entryInRange, operationInRange, entriesInRange, changing}
 use Rattle.table.specs.Layout.{fileFits, dimensionsFit, lengthFits, layoutOf}

@@ -5,7 +5,7 @@ use mathlib.Core.Bool.{true, false}
 use mathlib.Core.List.{List}
 use borrow.Author.Tests.{eqb-true, eqb-false, not-true, not-false}
 use Rattle.table.specs.declared.Shape.{Shape}
-use Rattle.table.proofs.Below.{any-at, none-at}
+use Rattle.laws.proofs.Below.{any-at, none-at}
 use Rattle.table.specs.Entries.{entryOf, changing}
 
 module _ (file : List ℕ) (shape : Shape) (operation : ℕ) where

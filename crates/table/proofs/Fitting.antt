@@ -1,12 +1,14 @@
 -- What it means that a file's length, mark and trailer are accepted.
 use Prim.Native.Nat.{ℕ, suc, _+_, _*_, _<_, _≤_}
-use mathlib.Core.Path.{_≡_, refl, sym, ap, _∙_}
-use mathlib.Core.Bool.{Bool, true, false, cond, _&&_, and-eq-true-iff}
+use mathlib.Core.Path.{_≡_, sym, ap, _∙_}
+use mathlib.Core.Bool.{true, and-eq-true-iff}
 use mathlib.Core.List.{List}
 use native.Mathlib.Omega.{arith}
 use native.Mathlib.Nat.{mul-le-mul-right, suc-mul}
 use borrow.Author.Tests.{leb-true, ltb-true, eqb-true, le-leb, lt-ltb, eq-eqb}
 use lib.ListN.{length}
+use Rattle.laws.proofs.Clash.{never}
+use Rattle.laws.proofs.Choice.{taken}
 use Rattle.refusal.specs.declared.Refusal.{Refusal}
 use Rattle.refusal.specs.declared.Refusal.the-variants.{File, Dimensions, Length}
 use Rattle.table.specs.declared.Shape.{Shape}
@@ -29,39 +31,31 @@ pub record Fitting (file : List ℕ) (shape : Shape) : Type 0 where
   pub little-text : shape .offset ≤ greatestOffset
   pub adds-up : shape .offset + entryBytes * (shape .states * shape .operations) + trailerBytes ≡ length file
 
-both : {a b : Bool} → a && b ≡ true → (a ≡ true) × (b ≡ true)
-both {a} {b} e = and-eq-true-iff a b .0 e
-
--- A choice that came out as its second part does not was decided by the test.
-pub taken : {X : Type 0} (b : Bool) (x y z : X) → cond b x y ≡ z → (y ≡ z → ⊥) → (b ≡ true) × (x ≡ z)
-taken true x y z e other = (refl, e)
-taken false x y z e other = absurd (other e)
-
 -- No refusal is an acceptance.
 pub refused : (cause : Refusal) (shape : Shape) → Refused cause ≡ Accepted shape → ⊥
-refused cause shape e = let z : _≡_ {A = ℕ} 0 1 = cc in omega arith
+refused cause shape e = never cc
 
 module _ (file : List ℕ) (shape : Shape) where
   file-parts : fileFits file ≡ true → (trailerBytes ≤ length file) × ((length file ≤ longestFile) × (endsInMark file ≡ true))
   unfolding fileFits
   file-parts e =
-      let p = both e in
-      let q = both (p .0) in
+      let p = and-eq-true-iff _ _ .0 e in
+      let q = and-eq-true-iff _ _ .0 (p .0) in
       (leb-true _ _ (q .0), (leb-true _ _ (q .1), p .1))
 
   dimension-parts : dimensionsFit shape ≡ true → ((1 ≤ shape .states) × (shape .states ≤ mostStates)) × ((1 ≤ shape .operations) × ((shape .operations ≤ mostOperations) × (shape .start < shape .states)))
   unfolding dimensionsFit
   dimension-parts e =
-      let p = both e in
-      let q = both (p .0) in
-      let r = both (q .0) in
-      let s = both (r .0) in
+      let p = and-eq-true-iff _ _ .0 e in
+      let q = and-eq-true-iff _ _ .0 (p .0) in
+      let r = and-eq-true-iff _ _ .0 (q .0) in
+      let s = and-eq-true-iff _ _ .0 (r .0) in
       ((leb-true _ _ (s .0), leb-true _ _ (s .1)), (leb-true _ _ (r .1), (leb-true _ _ (q .1), ltb-true _ _ (p .1))))
 
   length-parts : lengthFits (length file) shape ≡ true → (shape .offset ≤ greatestOffset) × (shape .offset + entryBytes * (shape .states * shape .operations) + trailerBytes ≡ length file)
   unfolding lengthFits
   length-parts e =
-      let p = both e in
+      let p = and-eq-true-iff _ _ .0 e in
       (leb-true _ _ (p .0), eqb-true _ _ (p .1))
 
   -- An accepted layout means that none of causes 1 to 3 holds.

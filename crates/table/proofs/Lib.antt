@@ -1,4 +1,3 @@
-pub mod Below
 pub mod Fitting
 pub mod Accepted
 pub mod Changing

@@ -7,7 +7,7 @@ use native.Mathlib.Omega.{arith}
 use borrow.Author.Tests.{leb-true, eqb-true, le-leb, eq-eqb}
 use lib.ListN.{length, getD, drop, length-append, length-drop}
 use lib.Seq.{getD-drop, getD-append-add, ext-getD}
-use Rattle.table.proofs.Below.{all-at, all-of}
+use Rattle.laws.proofs.Below.{all-at, all-of}
 use Rattle.table.specs.File.{mark, markBytes, endsInMark}
 
 pub marked-end : (file : List ℕ) → endsInMark file ≡ true → drop (length file - markBytes) file ≡ mark

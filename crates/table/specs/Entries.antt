@@ -5,7 +5,7 @@ use Prim.Native.Nat.{ℕ, _+_, _*_}
 use lib.Dec.{ltb, eqb}
 use Rattle.table.specs.declared.Shape.{Shape}
 use Rattle.table.specs.declared.Entry.{Entry}
-use Rattle.table.specs.Below.{allBelow, anyBelow}
+use Rattle.laws.specs.Below.{allBelow, anyBelow}
 use Rattle.table.specs.File.{byteAt}
 
 -- An entry's length: next state, response.

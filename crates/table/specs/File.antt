@@ -5,7 +5,7 @@ use Prim.Native.Nat.{ℕ, _+_, _-_, _*_, _<_}
 use lib.Dec.{leb, eqb}
 use lib.ListN.{length, getD}
 use Rattle.table.specs.declared.Shape.{Shape}
-use Rattle.table.specs.Below.{allBelow}
+use Rattle.laws.specs.Below.{allBelow}
 
 -- A byte of the file; past the end it is 0.
 abbrev pub byteAt : List ℕ → ℕ → ℕ

@@ -1,4 +1,3 @@
-pub mod Below
 pub mod File
 pub mod Layout
 pub mod Entries

@@ -9,6 +9,7 @@ use native.Mathlib.Omega.{arith}
 use borrow.Author.Tests.{ltb-true, lt-ltb, eq-eqb, ne-eqb}
 use lib.Dec.{eqb, ltb}
 use lib.ListN.{getD}
+use Rattle.laws.specs.Decision.{decided}
 use Rattle.cells.specs.Field.{pack, Fit}
 use Rattle.cells.specs.Form.{headInForm, headInRange, announcementInForm, announcementInRange}
 use Rattle.cells.specs.Layout.{marksWidth, marks, value, hasMark, addMark, removeMark, headWidths, headValues, headWord, headOf, announcementWidths, announcementValues, announcementWord, announcementOf, kindIn}
@@ -22,7 +23,7 @@ use Rattle.table.proofs.Fitting.{Fitting}
 use Rattle.table.proofs.Accepted.{accepted-fitting}
 use Rattle.machine.specs.Object.{Object}
 use Rattle.machine.specs.Memory.{HeadValue, Free, Held, Content, Empty, Op, Resp, Cell, stateOf, outcomeOf, head-dec, announcement-dec}
-use Rattle.machine.specs.Machine.{linked, released, decided}
+use Rattle.machine.specs.Machine.{linked, released}
 use Rattle.machine.specs.Form.{CellFormed, HeadFormed, AnnouncementFormed, HeadValueFormed, ContentFormed}
 use Rattle.transition.specs.Transition.{stateIn, responseIn}
 use Rattle.transition.specs.Object.{ObjectTable, objectOf}

@@ -1,19 +1,20 @@
 -- What a step leads to, from an encoded record and an encoded result.
-use mathlib.Core.Path.{_≡_, refl, sym, subst}
+use mathlib.Core.Path.{_≡_, sym, subst}
 use mathlib.Core.Bool.{Bool, true, false, cond}
 use mathlib.Core.List.{List}
+use mathlib.Core.Logic.{ite}
 use Prim.Native.Nat.{ℕ, _<_, _≤_}
 use native.Mathlib.Decide.{ℕ-discrete}
-use borrow.Author.Tests.{eq-eqb, ne-eqb}
-use lib.Dec.{eqb}
+use Rattle.laws.specs.Decision.{decided}
+use Rattle.laws.proofs.Choice.{choices}
+use Rattle.laws.proofs.Decision.{eqb-decided}
 use Rattle.cells.specs.Marks.{has}
 use Rattle.cells.specs.Layout.{marksWidth, hasMark, announcementOf}
 use Rattle.table.specs.declared.Shape.{Shape}
 use Rattle.machine.specs.Object.{Object}
 use Rattle.machine.specs.Memory.{HeadValue, Free, Held, Content, Empty, Op, Resp, Cell, Memory, head-dec, announcement-dec}
-use Rattle.machine.specs.Update.{either}
 use Rattle.machine.specs.Machine as machine
-use Rattle.machine.specs.Machine.{Idle, ReadOnly, Announce, Poll, LoadHead, LinkHead, LoadPriority, LoadOwn, Apply, ReloadApply, LoadHelped, LinkHelped, Validate, HandOver, ReloadHandOver, Release, ReloadRelease, ClearHead, ReloadClear, LoadExit, LinkExit, ClearExit, ReleaseExit, Retract, decided, linked, plan, result, after}
+use Rattle.machine.specs.Machine.{Idle, ReadOnly, Announce, Poll, LoadHead, LinkHead, LoadPriority, LoadOwn, Apply, ReloadApply, LoadHelped, LinkHelped, Validate, HandOver, ReloadHandOver, Release, ReloadRelease, ClearHead, ReloadClear, LoadExit, LinkExit, ClearExit, ReleaseExit, Retract, linked, plan, result, after}
 use Rattle.machine.specs.Form.{MemoryFormed, PhaseFormed}
 use Rattle.transition.specs.declared.access.Found.the-variants.{Swapped, Unswapped}
 use Rattle.transition.specs.declared.access.Next.{Next}
@@ -30,11 +31,7 @@ pub data Encodes : machine.Next → Next → Type 0 where
   turns : Encodes (machine.Turn Poll) Turn
   ends : (v : ℕ) → Encodes (machine.End v) (End v)
 
--- By a test, and by whether a swap was made.
-choice : (test : Bool) {y y′ : machine.Next} {z z′ : Next} → Encodes y z → Encodes y′ z′ → Encodes (cond test y y′) (cond test z z′)
-choice true e e′ = e
-choice false e e′ = e′
-
+-- By whether a swap was made.
 swap : (made : Bool) {y y′ : machine.Next} {z z′ : Next} → Encodes y z → Encodes y′ z′ → Encodes (cond made y y′) (cond (madeIn (cond made Swapped Unswapped)) z z′)
 swap true e e′ = e
 swap false e e′ = e′
@@ -64,13 +61,8 @@ helped-next h j a Empty = goes (Release h j a)
 helped-next h j a (Op o) = goes (Validate h j a)
 helped-next h j a (Resp v) = goes (Release h j a)
 
--- Whether the holder is the task itself.
-same-task : (j i : ℕ) (d : Dec (j ≡ i)) → eqb j i ≡ decided d
-same-task j i (yes e) = eq-eqb j i e
-same-task j i (no e) = ne-eqb j i e
-
 module _ (i v : ℕ) (h : Cell HeadValue) where
-  holder-next : (marked : Bool) {P : Type 0} (d : Dec P) → Encodes (cond marked (either d (machine.Go (ClearExit h v)) (machine.Go (ReleaseExit h v))) (either d (machine.Go (LinkExit h v)) (machine.Go (Retract v)))) (afterExit v (encodeHead h) marked (decided d))
+  holder-next : (marked : Bool) {P : Type 0} (d : Dec P) → Encodes (cond marked (ite d (machine.Go (ClearExit h v)) (machine.Go (ReleaseExit h v))) (ite d (machine.Go (LinkExit h v)) (machine.Go (Retract v)))) (afterExit v (encodeHead h) marked (decided d))
   holder-next true (yes e) = goes (ClearExit h v)
   holder-next true (no e) = goes (ReleaseExit h v)
   holder-next false (yes e) = goes (LinkExit h v)
@@ -79,8 +71,8 @@ module _ (i v : ℕ) (h : Cell HeadValue) where
   exit-next : (marked : Bool) (u : HeadValue) → Encodes (machine.afterExit marked i v h u) (afterExit v (encodeHead h) marked (holderIs i (headIn u)))
   exit-next true (Free q) = goes (ReleaseExit h v)
   exit-next false (Free q) = goes (Retract v)
-  exit-next true (Held q j r) = rw (same-task j i (ℕ-discrete j i)) (holder-next true (ℕ-discrete j i))
-  exit-next false (Held q j r) = rw (same-task j i (ℕ-discrete j i)) (holder-next false (ℕ-discrete j i))
+  exit-next true (Held q j r) = rw (eqb-decided j i (ℕ-discrete j i)) (holder-next true (ℕ-discrete j i))
+  exit-next false (Held q j r) = rw (eqb-decided j i (ℕ-discrete j i)) (holder-next false (ℕ-discrete j i))
 
 module _ (file : List ℕ) (shape : Shape) (table : ObjectTable file shape) (n : ℕ) (most : n ≤ marksWidth) (m : Memory) (ranged : MemoryFormed (objectOf file shape) n m) (i p x s : ℕ) (below : i < n) where
   abbrev object : Object
@@ -88,10 +80,10 @@ module _ (file : List ℕ) (shape : Shape) (table : ObjectTable file shape) (n :
 
   -- What the step leads to by the own mark in the head, or in the announcement of task j.
   head-marked : {y y′ : machine.Next} {z z′ : Next} → Encodes y z → Encodes y′ z′ → Encodes (cond (has i (m .head .marks)) y y′) (cond (hasMark i (encodeHead (m .head))) z z′)
-  head-marked e e′ = rw (head-has file shape table n most (m .head) (ranged .head) i below) (choice (has i (m .head .marks)) e e′)
+  head-marked e e′ = rw (head-has file shape table n most (m .head) (ranged .head) i below) (choices Encodes (has i (m .head .marks)) e e′)
 
   announcement-marked : (j : ℕ) {y y′ : machine.Next} {z z′ : Next} → Encodes y z → Encodes y′ z′ → Encodes (cond (has i (m .announcement j .marks)) y y′) (cond (hasMark i (encodeAnnouncement (m .announcement j))) z z′)
-  announcement-marked j e e′ = rw (announcement-has file shape table n most (m .announcement j) (ranged .announcement j) i below) (choice (has i (m .announcement j .marks)) e e′)
+  announcement-marked j e e′ = rw (announcement-has file shape table n most (m .announcement j) (ranged .announcement j) i below) (choices Encodes (has i (m .announcement j .marks)) e e′)
 
   -- Whether the swap is made that compares with a saved cell.
   abbrev headMade : Cell HeadValue → Bool

@@ -17,7 +17,7 @@ use Rattle.machine.specs.Memory.{HeadValue, Cell, stateOf, outcomeOf}
 use Rattle.machine.specs.Machine as machine
 use Rattle.machine.specs.Machine.{Idle, ReadOnly, Announce, Poll, LoadHead, LinkHead, LoadPriority, LoadOwn, Apply, ReloadApply, LoadHelped, LinkHelped, Validate, HandOver, ReloadHandOver, Release, ReloadRelease, ClearHead, ReloadClear, LoadExit, LinkExit, ClearExit, ReleaseExit, Retract, plan}
 use Rattle.machine.specs.Form.{HeadFormed, PhaseFormed}
-use Rattle.machine.proofs.Formed.{state-good}
+use Rattle.machine.proofs.Invariant.Ranges.{state-good}
 use Rattle.records.specs.declared.record.Task.{Task}
 use Rattle.transition.specs.declared.access.Access.the-variants.{Swap}
 use Rattle.transition.specs.Transition.{stateIn, responseIn, named, clearedWord, appliedWord, operationWord, responseWord, planOf}

@@ -7,7 +7,7 @@ use borrow.Author.Count.{below-more}
 use borrow.Author.Tests.{lt-leb, le-leb, eq-eqb, ne-eqb}
 use lib.Dec.{eqb}
 use lib.ListN.{length, getD}
-use Rattle.table.proofs.Below.{all-of, not-all}
+use Rattle.laws.proofs.Below.{all-of, not-all}
 use Rattle.table.specs.File as File
 use Rattle.table.specs.File.{endsInMark, markBytes}
 use Rattle.table.proofs.ends_in_mark.Statement.{statement}

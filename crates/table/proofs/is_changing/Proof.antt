@@ -8,7 +8,7 @@ use borrow.Author.Needs.{needs}
 use borrow.Author.Tests.{eq-eqb, ne-eqb}
 use lib.Dec.{eqb}
 use Rattle.table.specs.declared.Entry.{Entry}
-use Rattle.table.proofs.Below.{any-of, not-any}
+use Rattle.laws.proofs.Below.{any-of, not-any}
 use Rattle.table.specs.Entries.{entryOf, changing}
 use Rattle.table.proofs.is_changing.Statement.{statement}
 use Rattle.table.proofs.is_changing.Tie as tie

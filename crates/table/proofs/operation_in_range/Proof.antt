@@ -6,7 +6,7 @@ use native.Mathlib.Omega.{arith}
 use borrow.Author.Count.{below-more}
 use borrow.Author.Needs.{needs}
 use borrow.Author.Tests.{not-true, not-false}
-use Rattle.table.proofs.Below.{all-of, not-all}
+use Rattle.laws.proofs.Below.{all-of, not-all}
 use Rattle.table.specs.Entries.{entryInRange, operationInRange}
 use Rattle.table.proofs.operation_in_range.Statement.{statement}
 use Rattle.table.proofs.operation_in_range.Tie as tie

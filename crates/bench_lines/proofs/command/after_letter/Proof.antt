@@ -5,8 +5,9 @@ use Prim.Native.Nat.{ℕ, _+_}
 use native.Mathlib.Omega.{arith}
 use lib.ListN.{drop}
 use lib.Seq.{take-all, length-take-le}
+use Rattle.laws.proofs.Lists.{to-the-end}
 use Rattle.bench_lines.specs.Command.{fieldsOf, decimalOf, withOne, afterNumber, afterLetter}
-use Rattle.bench_lines.proofs.Fields.{one-field, first-field, to-the-end}
+use Rattle.bench_lines.proofs.Fields.{one-field, first-field}
 use Rattle.bench_lines.specs.declared.command.Number.{Number}
 use Rattle.bench_lines.proofs.command.after_letter.Statement.{statement}
 use Rattle.bench_lines.proofs.command.after_letter.Tie as tie

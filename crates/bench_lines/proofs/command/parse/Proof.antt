@@ -4,8 +4,9 @@ use mathlib.Core.List.{List}
 use Prim.Native.Nat.{ℕ}
 use native.Mathlib.Omega.{arith}
 use lib.ListN.{getD}
+use Rattle.laws.proofs.Lists.{to-the-end}
 use Rattle.bench_lines.specs.Command.{fieldsOf, afterLetter}
-use Rattle.bench_lines.proofs.Fields.{to-the-end, command-of-none, command-of-one, command-of-more}
+use Rattle.bench_lines.proofs.Fields.{command-of-none, command-of-one, command-of-more}
 use Rattle.bench_lines.proofs.command.parse.Statement.{statement}
 use Rattle.bench_lines.proofs.command.parse.Tie as tie
 

@@ -4,7 +4,8 @@ use Prim.Native.Nat.{ℕ, _*_, _-_, _≤_}
 use native.Mathlib.Omega.{arith}
 use borrow.Author.Needs.{needs}
 use lib.ListN.{length, take, set, replicate, length-set}
-use Rattle.cells.proofs.Images.{filled-more, filled-all, image-made, image-none}
+use Rattle.laws.proofs.Lists.{filled-more, filled-all}
+use Rattle.cells.proofs.Images.{image-made, image-none}
 use Rattle.cells.proofs.image.fill_image.Statement.{statement}
 use Rattle.cells.proofs.image.fill_image.Tie as tie
 

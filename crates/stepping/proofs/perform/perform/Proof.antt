@@ -1,11 +1,11 @@
 -- Each access by the cell that it names; a read and a swap that isn't made write nothing.
 use mathlib.Core.Path.{refl, sym, subst}
 use Prim.Native.Nat.{_<_}
+use lib.Seq.{set-getD}
 use borrow.Author.Tests.{eq-eqb, ne-eqb}
 use lib.ListN.{length}
 use Rattle.transition.specs.declared.access.Access.{Access}
 use Rattle.stepping.specs.Step.{touched, performOf}
-use Rattle.stepping.proofs.Lists.{set-held}
 use borrow.Author.Needs.{needs, scaled-fits}
 use Rattle.stepping.proofs.perform.perform.Statement.{statement}
 use Rattle.stepping.proofs.perform.perform.Tie as tie
@@ -61,7 +61,7 @@ slice-write-cells-2 c = swap-within (c .before .before)
 
 returns : tie.Need-returns
 unfolding performOf
-returns c = simp (c .before .before .access .given .1) (refl, sym (set-held _ _ _))
+returns c = simp (c .before .before .access .given .1) (refl, sym (set-getD _ _ _))
 
 same-length : tie.Need-same-length
 same-length c = search needs
@@ -79,7 +79,7 @@ returns-3 c = simp (eq-eqb _ _ (c .if1 .taken), c .before .before .before .acces
 
 returns-4 : tie.Need-returns-4
 unfolding performOf
-returns-4 c = simp (ne-eqb _ _ (c .if1 .left), c .before .before .before .access3 .given .1) (refl, sym (set-held _ _ _))
+returns-4 c = simp (ne-eqb _ _ (c .if1 .left), c .before .before .before .access3 .given .1) (refl, sym (set-getD _ _ _))
 
 pub perform-spec : {M : Type 1} → statement M
 perform-spec =

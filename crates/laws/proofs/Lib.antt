@@ -1,0 +1,9 @@
+pub mod Clash
+pub mod Choice
+pub mod Below
+pub mod Decision
+pub mod Update
+pub mod Lists
+pub mod Tabulate
+pub mod Places
+pub mod Sums
