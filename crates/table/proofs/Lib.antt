@@ -2,5 +2,4 @@ pub mod Below
 pub mod Fitting
 pub mod Accepted
 pub mod Changing
-pub mod Marked
 pub mod Cases
