@@ -71,10 +71,3 @@ fn is_equal(program: &Path, folder: &Path, piece: Option<usize>) -> Result<bool,
 fn remove(folder: &Path) -> Result<(), String> {
     fs::remove_dir_all(folder).map_err(|error| error.to_string())
 }
-
-/// Writes into a folder what the bench prints there: the file `stdout` beside `table.bin` and `stdin`.
-pub fn write_listing(folder: &str) -> Result<(), String> {
-    let folder = Path::new(folder);
-    let printed = output_in_folder(folder)?;
-    fs::write(folder.join("stdout"), printed).map_err(|error| error.to_string())
-}

@@ -15,6 +15,7 @@ pub mod file_calls;
 mod invariant;
 pub mod kernel;
 mod lines;
+pub mod listings;
 pub mod long_operations;
 mod longest;
 mod longest_path;

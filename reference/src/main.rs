@@ -4,7 +4,8 @@ use std::io::Read;
 use std::path::Path;
 use std::process::ExitCode;
 
-use reference::compare_bench::{compare_bench, write_listing, RANDOM_SCRIPTS};
+use reference::compare_bench::{compare_bench, RANDOM_SCRIPTS};
+use reference::listings::{check_listings, write_listings};
 use reference::{bench, ceiling, compare_tables, exploration, kernel, long_operations, table};
 
 const USAGE: &str = "usage: reference check-table < FILE
@@ -14,7 +15,7 @@ const USAGE: &str = "usage: reference check-table < FILE
        reference longest [TASKS]
        reference bench < LINES
        reference compare-bench PATH_TO_bench [COUNT]
-       reference listing FOLDER
+       reference listings CRATES [--check]
        reference kernel";
 
 fn main() -> ExitCode {
@@ -34,7 +35,8 @@ fn main() -> ExitCode {
             Ok(count) => compare_bench(program, count).map(print_line),
             Err(_) => Err(USAGE.to_string()),
         },
-        ["listing", folder] => write_listing(folder),
+        ["listings", crates] => write_listings(crates).map(print_line),
+        ["listings", crates, "--check"] => check_listings(crates).map(print_line),
         ["kernel"] => kernel::listing().map(|listing| print!("{listing}")),
         _ => Err(USAGE.to_string()),
     };

@@ -1,6 +1,5 @@
 // Text that is put together piece by piece: each function appends to what stands in `out` before `at`, and returns the
 // new end.
-ghost use mathlib.Core.Path.{_≡_};
 ghost use mathlib.Core.List.{[], _∷_};
 ghost use Prim.Native.Nat.{_+_, _*_, _<_, _≤_};
 ghost use lib.ListN.{length};

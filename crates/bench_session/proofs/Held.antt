@@ -1,14 +1,11 @@
 -- An array of 64 bytes and a length hold a line that grows.
 use mathlib.Core.Path.{_≡_, refl, sym, ap, _∙_}
-use mathlib.Core.Bool.{Bool, true, false}
 use mathlib.Core.List.{List, [], _∷_, _++_}
 use Prim.Native.Nat.{ℕ, _+_, _<_, _≤_}
 use native.Mathlib.Numerals.{add-one}
 use native.Mathlib.Omega.{arith}
 use lib.ListN.{length, take, set, length-append, length-set}
-use lib.Dec.{leb}
-use lib.Seq.{take-all, take-suc-set, take-append-le, length-take-le}
-use borrow.Author.Tests.{leb-true, leb-false}
+use lib.Seq.{take-all, take-suc-set, take-append-le}
 use Rattle.bench_lines.specs.declared.command.Command.the-variants.{Unknown}
 use Rattle.bench_lines.specs.Command.{commandOf}
 use Rattle.bench_session.specs.Session.{Holds, longestLine}
@@ -51,25 +48,3 @@ module _ (bytes held : List ℕ) (len : ℕ) (h : Holds bytes held len) where
 -- No byte.
 pub hold-none : (held : List ℕ) → length held ≡ longestLine → Holds [] held 0
 hold-none held e = (e, (omega arith, refl))
-
--- Every array of 64 bytes and every length hold some line.
-pub holds-some : (held : List ℕ) (len : ℕ) → length held ≡ longestLine → (bytes : List ℕ) × Holds bytes held len
-holds-some held len e = at (leb len longestLine) refl
-  where
-    at : (t : Bool) → leb len longestLine ≡ t → (bytes : List ℕ) × Holds bytes held len
-    at true h =
-        let short : len ≤ longestLine = leb-true len longestLine h in
-        let part = length-take-le len held (omega arith) in
-        (take len held, (e, (omega (arith, part), sym (take-all longestLine (take len held) (omega (arith, part))))))
-    at false h =
-        let long : longestLine < len = leb-false len longestLine h in
-        let more = length-append held (0 ∷ []) in (
-          held ++ (0 ∷ []),
-          (
-            e,
-            (
-              omega (arith, more),
-              take-all len held (omega arith) ∙ sym (take-append-le longestLine held (0 ∷ []) (omega arith) ∙ take-all longestLine held (omega arith)),
-            ),
-          ),
-        )

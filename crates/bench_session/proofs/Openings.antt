@@ -6,6 +6,7 @@ use native.Mathlib.Omega.{arith}
 use borrow.Author.Tests.{eq-eqb}
 use lib.ListN.{length}
 use Rattle.laws.proofs.Clash.{never}
+use Rattle.cells.specs.Ceiling.{greatestCeiling}
 use Rattle.cells.proofs.Ceilings.{ceiling-cubed}
 use Rattle.table.specs.File.{Bytes}
 use Rattle.machine.specs.Object.{Object}
@@ -59,7 +60,7 @@ start-sizes file cells row bytes e =
 -- While an operation is pending its next step is accepted, and its own steps are below the greatest ceiling.
 pub record Timely (file : List ℕ) (s : Store) (xs : List Call) (t k : ℕ) : Type 0 where
   pub accepted : StepAccepted (serveOf file (Step t) (runOf file xs s) .answer)
-  pub below : k < 512000
+  pub below : k < greatestCeiling
 
 pub pending-timely : {file : List ℕ} {n q : ℕ} {s : Store} → Opening file n q s → (xs : List Call) (t o k : ℕ) → pending (historyOf file xs s) t ≡ Pends o k → Timely file s xs t k
 pending-timely {n = n} a xs t o k e =

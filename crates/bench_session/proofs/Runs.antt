@@ -5,6 +5,7 @@ use mathlib.Core.List.{List}
 use Prim.Native.Nat.{ℕ, zero, suc, _-_, _<_}
 use native.Mathlib.Omega.{arith}
 use borrow.Author.Tests.{eq-eqb, ne-eqb}
+use Rattle.cells.specs.Ceiling.{greatestCeiling}
 use Rattle.records.specs.declared.record.Task.{Task}
 use Rattle.bench_lines.specs.declared.command.Command.{Command}
 use Rattle.bench_lines.specs.declared.reply.Reply.{Reply}
@@ -21,7 +22,7 @@ abbrev pub handledAs : Bench → Reply → Handled
 handledAs bench reply = record { bench = bench; reply = reply }
 
 -- The greatest number of turns.
-pub most-turns : mostTurns ≡ 512000
+pub most-turns : mostTurns ≡ greatestCeiling
 unfolding mostTurns
 most-turns = refl
 

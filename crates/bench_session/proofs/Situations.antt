@@ -85,10 +85,6 @@ module _ (file : List ℕ) (bench : Bench) (nine : NineHeld bench) where
     unfolding stepBench stepHeld stepFirst
     lent-step = sym (store-same (front-taken (cellCount (bench .tasks)) (stepOut file bench t .cells) (bench .cells) cells-room step-cells) (front-taken (firstCount (bench .tasks)) (stepOut file bench t .row) (bench .row) row-room step-row))
 
-    pub same-tasks : stepBench file bench t .bench .tasks ≡ bench .tasks
-    unfolding stepBench stepHeld
-    same-tasks = refl
-
   module _ (t o : ℕ) where
     begin-row : length (beginOut file bench t o .row) ≡ length (lent bench .row)
     unfolding beginOf

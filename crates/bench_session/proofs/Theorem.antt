@@ -8,7 +8,7 @@ use Rattle.laws.proofs.Clash.{never}
 use Rattle.table.specs.declared.Checked.{Checked}
 use Rattle.table.specs.declared.Checked.the-variants as table
 use Rattle.table.specs.Layout.{layoutOf}
-use Rattle.cells.specs.Ceiling.{ceilingOf}
+use Rattle.cells.specs.Ceiling.{greatestCeiling, ceilingOf}
 use Rattle.machine.specs.Calls.{Call, Step}
 use Rattle.machine.specs.History.{Pends, pending}
 use Rattle.machine.specs.Demand.{StepAccepted}
@@ -62,7 +62,7 @@ module _ {file : List ℕ} {n q : ℕ} {s : Store} (o : Opening file n q s) (t x
 
   -- Operation x of task t is pending after j own steps, and k more steps would reach the greatest ceiling.
   running-responds : (k j : ℕ) (out : Handled) (xs : List Call) → NineHeld (out .bench) → runOf file xs s ≡ lent (out .bench) → runsOn (out .reply) ≡ true
-      → pending (historyOf file xs s) t ≡ Pends x j → 512000 ≤ j + k → Responds file k t out
+      → pending (historyOf file xs s) t ≡ Pends x j → greatestCeiling ≤ j + k → Responds file k t out
   running-responds zero j out xs nine same runs p enough = absurd (omega (arith, pending-timely o xs t x j p .below))
   running-responds (suc k) j out xs nine same runs p enough =
       let bench = out .bench in

@@ -8,6 +8,7 @@ use lib.Dec.{eqb, ltb}
 use lib.ListN.{take, drop, replicate}
 use Rattle.io.specs.Counts.{Counts}
 use Rattle.refusal.specs.declared.Refusal.the-variants as cause
+use Rattle.cells.specs.Ceiling.{greatestCeiling}
 use Rattle.table.specs.declared.Shape.{Shape}
 use Rattle.table.specs.File.{shapeOf}
 use Rattle.stepping.specs.declared.answer.StepAnswer.{StepAnswer}
@@ -123,7 +124,7 @@ finishFrom (suc k) file t out = cond (runsOn (out .reply)) (finishFrom k file t 
 
 -- The greatest ceiling of own steps. It is unfolded only where that is asked for, so that nothing counts down from it.
 unfoldable pub mostTurns : ℕ
-mostTurns = 512000
+mostTurns = greatestCeiling
 
 -- A first step, and as many more as that.
 abbrev pub finishBench : List ℕ → Bench → ℕ → Handled

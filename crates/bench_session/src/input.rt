@@ -96,7 +96,7 @@ fn read_table(room: &mut [u8]) -> usize
 
 // The bench program. One byte more than the longest file is room enough to see that a file is too long.
 pub fn serve_all() {
-    let mut room = [0u8; 20497];
+    let mut room = [0u8; table::LONGEST_FILE + 1];
     let len = read_table(&mut room);
     serve_file(&room[..len]);
 }

@@ -3,6 +3,7 @@ use bench_lines::command::Command;
 use bench_lines::reply;
 use bench_lines::reply::Reply;
 use bench_lines::reply::Text;
+use cells::ceiling;
 use records::record;
 use records::record::Task;
 use refusal::Refusal;
@@ -19,7 +20,7 @@ ghost use Rattle.bench_session.specs.Run.{unstartedBench, cellCount, sta
 const MOST_CELLS: usize = 9;
 
 // The greatest ceiling of own steps. After a first step and as many more, an operation has ended or its step is refused.
-const MOST_TURNS: u32 = 512_000;
+const MOST_TURNS: u32 = ceiling::GREATEST;
 
 // The cells and the records of the run are the first ones. Without an accepted start there are 0 tasks.
 pub struct Bench {

@@ -2,19 +2,18 @@
 use mathlib.Core.Path.{_≡_, refl, ap}
 use mathlib.Core.Bool.{Bool, true, false, _&&_, and-eq-true-iff}
 use mathlib.Core.List.{[], _∷_}
-use Prim.Native.Nat.{ℕ, _/_, _%_, _^_, _<_}
+use Prim.Native.Nat.{ℕ, _/_, _%_, _^_}
 use borrow.Author.Tests.{eqb-true}
 use lib.Dec.{eqb, ltb}
 use lib.ListN.{getD}
 use Rattle.cells.specs.Field.{unpack, Fit}
 use Rattle.cells.specs.Form.{payloadInForm, announcementFieldsInForm, announcementInForm, announcementInRange}
 use Rattle.cells.specs.Layout.{marksWidth, kindWidth, gapWidth, payloadWidth, marks, value, announcementWidths, announcementValues, announcementAt, announcementFrom, announcementWord, announcementOf, kindIn}
-use Rattle.cells.proofs.MarkLaws.{SetsBit}
 use Rattle.cells.specs.declared.announcement.Announcement.{Announcement}
 use Rattle.cells.specs.declared.announcement.Announcement.the-variants.{Empty, Operation, Response}
 use Rattle.cells.proofs.Fields.{unpack-pack}
 use Rattle.cells.proofs.Codec.{Codec, content-read, marks-read, word-injective}
-use Rattle.cells.proofs.Forms.{Formed, formed, form-of, Shape, written-form, form-whole, form-range, form-set}
+use Rattle.cells.proofs.Forms.{Formed, formed, Shape, written-form, form-whole}
 
 pub announcement-codec : Codec announcementValues announcementFrom
 announcement-codec = record { content-of = content; marks-of = lowest }
@@ -58,7 +57,7 @@ announcement-again o m k g p t = at (eqb k 0) refl (eqb k 1) refl
 -- The announcement's form, with any widths of kind, gap and payload.
 pub announcement-shape : (b c d o : ℕ) → Shape announcementValues announcementFrom (b ∷ c ∷ d ∷ []) (announcementFieldsInForm o) (announcementInRange o)
 unfolding announcementFieldsInForm unpack
-announcement-shape b c d o = record { codec = announcement-codec; ranged = announcement-ranged o; blind = λ m k vs. refl; again = again }
+announcement-shape b c d o = record { codec = announcement-codec; ranged = announcement-ranged o; again = again }
   where
     again : (w : ℕ) → announcementFieldsInForm o (unpack (marksWidth ∷ b ∷ c ∷ d ∷ []) w) ≡ true → announcementValues (announcementFrom (unpack (marksWidth ∷ b ∷ c ∷ d ∷ []) w)) (marks w) ≡ unpack (marksWidth ∷ b ∷ c ∷ d ∷ []) w
     again w t = announcement-again o (marks w) (value w % 2 ^ b) (value w / 2 ^ b % 2 ^ c) (value w / 2 ^ b / 2 ^ c % 2 ^ d) t
@@ -86,12 +85,7 @@ module _ (x : Announcement) (m : ℕ) (f : Fit announcementWidths (announcementV
   unfolding announcementWord announcementInForm
   announcement-form o n = written-form (announcement-shape kindWidth gapWidth payloadWidth o) n x m f
 
--- An announcement depends on the value of its word alone.
-pub announcement-of-value : (v w : ℕ) → value v ≡ value w → announcementOf v ≡ announcementOf w
-unfolding announcementOf unpack
-announcement-of-value v w e = rw e
-
--- A word in form is its announcement with its marks; it is in range; and link and release keep the form.
+-- A word in form is its announcement with its marks.
 module _ (o n w : ℕ) (e : announcementInForm o n w ≡ true) where
   pub announcement-formed : Formed announcementWidths (announcementFieldsInForm o) n w
   unfolding announcementInForm
@@ -100,11 +94,3 @@ module _ (o n w : ℕ) (e : announcementInForm o n w ≡ true) where
   pub announcement-whole : announcementWord (announcementOf w) (marks w) ≡ w
   unfolding announcementWord announcementOf
   announcement-whole = form-whole (announcement-shape kindWidth gapWidth payloadWidth o) n w announcement-formed
-
-  pub announcement-range : announcementInRange o (announcementOf w) ≡ true
-  unfolding announcementOf
-  announcement-range = form-range (announcement-shape kindWidth gapWidth payloadWidth o) n w announcement-formed
-
-  pub announcement-set : {c : ℕ} {f : ℕ → ℕ → ℕ} → SetsBit c f → (i : ℕ) → i < n → i < marksWidth → announcementInForm o n (f i w) ≡ true
-  unfolding announcementInForm
-  announcement-set {c} {f} sets i h l = form-of announcementWidths (announcementFieldsInForm o) n (f i w) (form-set (announcement-shape kindWidth gapWidth payloadWidth o) n sets i w h l announcement-formed)

@@ -2,7 +2,7 @@
 use mathlib.Core.Path.{_≡_, refl, ap, sym, _∙_}
 use mathlib.Core.List.{List, [], _∷_}
 use Prim.Native.Nat.{ℕ, _+_, _*_, _/_, _%_, _^_, _<_}
-use native.Mathlib.Nat.{add-mul-mod-self-left, mod-eq-of-lt, mod-lt, mod-add-div, add-mul-div-left, div-eq-of-lt, div-lt-iff-lt-mul, mul-comm, div-div-eq-div-mul, div-one}
+use native.Mathlib.Nat.{add-mul-mod-self-left, mod-eq-of-lt, mod-add-div, add-mul-div-left, div-eq-of-lt, div-lt-iff-lt-mul, mul-comm, div-div-eq-div-mul, div-one}
 use native.Mathlib.Omega.{arith}
 use lib.Arith.{digits-lt}
 use lib.Pow.{pow-pos, pow-add}
@@ -38,12 +38,6 @@ pack-unpack [] x h = omega arith
 pack-unpack (w ∷ ws) x h =
     let l : x < 2 ^ total ws * 2 ^ w = rw (pow-add 2 w (total ws), mul-comm (2 ^ w) (2 ^ total ws)) at h in
     rw (pack-unpack ws (x / 2 ^ w) (div-lt-iff-lt-mul (pow-pos w) .1 l)) (mod-add-div x (2 ^ w))
-
--- What is read fits its fields.
-pub unpack-fit : (ws : List ℕ) (x : ℕ) → Fit ws (unpack ws x)
-unfolding unpack
-unpack-fit [] x = tt
-unpack-fit (w ∷ ws) x = (mod-lt x (pow-pos w), unpack-fit ws (x / 2 ^ w))
 
 -- A written word has no bits beside the fields.
 pub pack-below : (ws vs : List ℕ) → Fit ws vs → pack ws vs < 2 ^ total ws

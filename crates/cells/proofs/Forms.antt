@@ -2,15 +2,13 @@
 use mathlib.Core.Path.{_≡_, ap, sym, _∙_}
 use mathlib.Core.Bool.{Bool, true, _&&_, and-eq-true-iff}
 use mathlib.Core.List.{List, _∷_}
-use Prim.Native.Nat.{ℕ, _/_, _^_, _<_}
-use native.Mathlib.Omega.{arith}
+use Prim.Native.Nat.{ℕ, _^_, _<_}
 use borrow.Author.Tests.{lt-ltb, ltb-true}
 use lib.Dec.{ltb}
 use lib.ListN.{getD}
 use Rattle.cells.specs.Field.{pack, unpack, total, Fit}
 use Rattle.cells.specs.Form.{marksInForm, inForm}
 use Rattle.cells.specs.Layout.{marksWidth, marks}
-use Rattle.cells.proofs.MarkLaws.{SetsBit, set-high, set-low, set-below}
 use Rattle.cells.proofs.Codec.{Codec}
 use Rattle.cells.proofs.Fields.{unpack-low, unpack-pack, pack-unpack, pack-below}
 
@@ -29,23 +27,13 @@ module _ (ws : List ℕ) (fields : List ℕ → Bool) (n w : ℕ) where
       let second = and-eq-true-iff (ltb (marks w) (2 ^ n)) (fields (unpack ws w)) .0 (first .1) in
       record { small = ltb-true w (2 ^ total ws) (first .0); few = ltb-true (marks w) (2 ^ n) (second .0); passed = second .1 }
 
-  pub form-of : Formed ws fields n w → inForm ws fields n w ≡ true
-  unfolding inForm marksInForm
-  form-of g = rw (lt-ltb w (2 ^ total ws) (g .small), lt-ltb (marks w) (2 ^ n) (g .few), g .passed)
-
 -- What a form has to do with the contents of its words: `ws` are the widths above the marks.
 pub record Shape {X : Type 0} (values : X → ℕ → List ℕ) (from : List ℕ → X) (ws : List ℕ) (fields : List ℕ → Bool) (range : X → Bool) : Type 0 where
   pub codec : Codec values from
   -- The fields of a content pass the test exactly if the content is in range.
   pub ranged : (x : X) (m : ℕ) → fields (values x m) ≡ range x
-  -- The test doesn't look at the marks.
-  pub blind : (m k : ℕ) (vs : List ℕ) → fields (m ∷ vs) ≡ fields (k ∷ vs)
   -- Fields that pass the test are those of the content that they say.
   pub again : (w : ℕ) → fields (unpack (marksWidth ∷ ws) w) ≡ true → values (from (unpack (marksWidth ∷ ws) w)) (marks w) ≡ unpack (marksWidth ∷ ws) w
-
-within : (i : ℕ) (ws : List ℕ) → i < marksWidth → i < total (marksWidth ∷ ws)
-unfolding total
-within i ws h = omega arith
 
 module _ {X : Type 0} {values : X → ℕ → List ℕ} {from : List ℕ → X} {ws : List ℕ} {fields : List ℕ → Bool} {range : X → Bool} (shape : Shape values from ws fields range) (n : ℕ) where
   -- A written word is in form exactly if its marks are those of tasks below n and its content is in range.
@@ -60,18 +48,3 @@ module _ {X : Type 0} {values : X → ℕ → List ℕ} {from : List ℕ → X} 
   -- A word in form is its content and its marks, written again.
   pub form-whole : (w : ℕ) → Formed (marksWidth ∷ ws) fields n w → pack (marksWidth ∷ ws) (values (from (unpack (marksWidth ∷ ws) w)) (marks w)) ≡ w
   form-whole w g = ap (pack (marksWidth ∷ ws)) (shape .again w (g .passed)) ∙ pack-unpack (marksWidth ∷ ws) w (g .small)
-
-  -- The content of a word in form is in range.
-  pub form-range : (w : ℕ) → Formed (marksWidth ∷ ws) fields n w → range (from (unpack (marksWidth ∷ ws) w)) ≡ true
-  form-range w g = sym (shape .ranged (from (unpack (marksWidth ∷ ws) w)) (marks w)) ∙ ap fields (shape .again w (g .passed)) ∙ g .passed
-
-  -- Link and release by a task below n keep the form.
-  pub form-set : {c : ℕ} {f : ℕ → ℕ → ℕ} → SetsBit c f → (i w : ℕ) → i < n → i < marksWidth → Formed (marksWidth ∷ ws) fields n w → Formed (marksWidth ∷ ws) fields n (f i w)
-  form-set {c} {f} sets i w h l g =
-      let upper : List ℕ = unpack ws (w / 2 ^ marksWidth) in
-      let same : fields (marks w ∷ upper) ≡ true = sym (ap fields (unpack-low marksWidth ws w)) ∙ g .passed in
-      record {
-        small = set-below sets i (total (marksWidth ∷ ws)) w (within i ws l) (g .small);
-        few = rw (set-low sets i marksWidth w l) (set-below sets i n (marks w) h (g .few));
-        passed = rw (unpack-low marksWidth ws (f i w), set-high sets i marksWidth w l) (shape .blind (marks (f i w)) (marks w) upper ∙ same);
-      }

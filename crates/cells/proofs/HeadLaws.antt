@@ -2,7 +2,7 @@
 use mathlib.Core.Path.{_≡_, refl}
 use mathlib.Core.Bool.{Bool, true, false, _&&_, and-true, cond, and-eq-true-iff}
 use mathlib.Core.List.{[], _∷_}
-use Prim.Native.Nat.{ℕ, _+_, _-_, _/_, _%_, _^_, _<_}
+use Prim.Native.Nat.{ℕ, _+_, _-_, _/_, _%_, _^_}
 use native.Mathlib.Numerals.{add-one}
 use native.Mathlib.Omega.{arith}
 use borrow.Author.Tests.{eqb-true, eqb-false, ne-eqb}
@@ -11,11 +11,10 @@ use lib.ListN.{getD}
 use Rattle.cells.specs.Field.{unpack, Fit}
 use Rattle.cells.specs.Form.{holderBound, headFieldsInForm, headInForm, headInRange}
 use Rattle.cells.specs.Layout.{marksWidth, stateWidth, responseWidth, holderWidth, marks, value, headWidths, headValues, headAt, headFrom, headWord, headOf}
-use Rattle.cells.proofs.MarkLaws.{SetsBit}
 use Rattle.cells.specs.declared.head.Head.{Head}
 use Rattle.cells.specs.declared.head.Head.the-variants.{Free, Held}
 use Rattle.cells.proofs.Codec.{Codec, content-read, marks-read, word-injective}
-use Rattle.cells.proofs.Forms.{Formed, formed, form-of, Shape, written-form, form-whole, form-range, form-set}
+use Rattle.cells.proofs.Forms.{Formed, formed, Shape, written-form, form-whole}
 
 pub head-codec : Codec headValues headFrom
 head-codec = record { content-of = content; marks-of = lowest }
@@ -48,7 +47,7 @@ head-again m q r h t = at (eqb h 0) refl
 -- The head's form, with any widths of state, response and holder.
 pub head-shape : (b c d s n : ℕ) → Shape headValues headFrom (b ∷ c ∷ d ∷ []) (headFieldsInForm s n) (headInRange s n)
 unfolding headFieldsInForm unpack
-head-shape b c d s n = record { codec = head-codec; ranged = head-ranged s n; blind = λ m k vs. refl; again = again }
+head-shape b c d s n = record { codec = head-codec; ranged = head-ranged s n; again = again }
   where
     again : (w : ℕ) → headFieldsInForm s n (unpack (marksWidth ∷ b ∷ c ∷ d ∷ []) w) ≡ true → headValues (headFrom (unpack (marksWidth ∷ b ∷ c ∷ d ∷ []) w)) (marks w) ≡ unpack (marksWidth ∷ b ∷ c ∷ d ∷ []) w
     again w t =
@@ -77,12 +76,7 @@ module _ (x : Head) (m : ℕ) (f : Fit headWidths (headValues x m)) where
   unfolding headWord headInForm
   head-form s n = written-form (head-shape stateWidth responseWidth holderWidth s n) n x m f
 
--- A head depends on the value of its word alone.
-pub head-of-value : (v w : ℕ) → value v ≡ value w → headOf v ≡ headOf w
-unfolding headOf unpack
-head-of-value v w e = rw e
-
--- A word in form is its head with its marks; the head is in range; and link and release keep the form.
+-- A word in form is its head with its marks.
 module _ (s n w : ℕ) (e : headInForm s n w ≡ true) where
   pub head-formed : Formed headWidths (headFieldsInForm s n) n w
   unfolding headInForm
@@ -91,11 +85,3 @@ module _ (s n w : ℕ) (e : headInForm s n w ≡ true) where
   pub head-whole : headWord (headOf w) (marks w) ≡ w
   unfolding headWord headOf
   head-whole = form-whole (head-shape stateWidth responseWidth holderWidth s n) n w head-formed
-
-  pub head-range : headInRange s n (headOf w) ≡ true
-  unfolding headOf
-  head-range = form-range (head-shape stateWidth responseWidth holderWidth s n) n w head-formed
-
-  pub head-set : {c : ℕ} {f : ℕ → ℕ → ℕ} → SetsBit c f → (i : ℕ) → i < n → i < marksWidth → headInForm s n (f i w) ≡ true
-  unfolding headInForm
-  head-set {c} {f} sets i h l = form-of headWidths (headFieldsInForm s n) n (f i w) (form-set (head-shape stateWidth responseWidth holderWidth s n) n sets i w h l head-formed)

@@ -179,19 +179,10 @@ has-remove = has-set removes
 pub has-remove-other : (i j w : ℕ) → i ≢ j → has i (remove j w) ≡ has i w
 has-remove-other = has-set-other removes
 
--- Adding a mark that stands changes nothing; nor does removing one that doesn't stand.
+-- Adding a mark that stands changes nothing.
 pub add-has : (i w : ℕ) → has i w ≡ true → add i w ≡ w
 unfolding add
 add-has i w h = rw h
-
-pub remove-lacks : (i w : ℕ) → has i w ≡ false → remove i w ≡ w
-unfolding remove
-remove-lacks i w h = rw h
-
--- Removing a mark that was added gives the word back.
-pub remove-add : (i w : ℕ) → has i w ≡ false → remove i (add i w) ≡ w
-unfolding add remove
-remove-add i w h = let e : add i w ≡ w + 2 ^ i = rw h in rw (has-add i w, e) (omega arith)
 
 -- Marks of tasks below n stay marks of tasks below n.
 pub add-below : (i n w : ℕ) → i < n → w < 2 ^ n → add i w < 2 ^ n

@@ -1,13 +1,13 @@
 -- What the marks of a cell are, for every task number.
-use mathlib.Core.Path.{_≡_, refl, ap, sym, _∙_}
+use mathlib.Core.Path.{_≡_, refl}
 use mathlib.Core.Bool.{Bool, true, false, cond}
-use Prim.Native.Nat.{ℕ, _+_, _-_, _/_, _%_, _^_, _<_, _≤_}
+use Prim.Native.Nat.{ℕ, _+_, _-_, _^_, _<_, _≤_}
 use native.Mathlib.Omega.{arith}
 use borrow.Author.Tests.{ltb-true, lt-ltb}
 use lib.Dec.{ltb}
 use Rattle.cells.specs.Layout.{marksWidth, value, marks, markOf, hasMark, addMark, removeMark}
-use Rattle.cells.specs.Marks.{none, has, add, remove}
-use Rattle.cells.proofs.MarkLaws.{SetsBit, place-below, has-none, has-low, set-high, set-low, add-below}
+use Rattle.cells.specs.Marks.{has, add, remove}
+use Rattle.cells.proofs.MarkLaws.{SetsBit, place-below, set-high, set-low, add-below}
 
 -- A task below the marks' width has the marks that the laws of `MarkLaws` speak of.
 module _ (i w : ℕ) (h : i < marksWidth) where
@@ -66,11 +66,3 @@ module _ {c : ℕ} {f : ℕ → ℕ → ℕ} (sets : SetsBit c f) (i w : ℕ) (h
 
   pub set-marks : marks (f i w) ≡ f i (marks w)
   set-marks = set-low sets i marksWidth w h
-
--- In a cell whose marks are `none`, as a conditional store leaves it, no task has a mark.
-pub none-marked : (i w : ℕ) → i < marksWidth → marks w ≡ none → has i w ≡ false
-none-marked i w h e = sym (has-low i marksWidth w h) ∙ ap (has i) e ∙ has-none i
-
--- A cell is its value and its marks.
-pub same-word : (v w : ℕ) → value v ≡ value w → marks v ≡ marks w → v ≡ w
-same-word v w e g = omega arith

@@ -9,9 +9,13 @@ use Rattle.refusal.specs.declared.Refusal.the-variants.{Row}
 use Rattle.cells.specs.declared.ceiling.Ceiling.{Ceiling}
 use Rattle.cells.specs.declared.ceiling.Ceiling.the-variants.{Steps, Refused}
 
+-- The ceiling for 8 tasks, which is the greatest.
+abbrev pub greatestCeiling : ℕ
+greatestCeiling = 512000
+
 -- The ceilings for 1 to 8 tasks.
 abbrev pub ceilings : List ℕ
-ceilings = 1000 ∷ 8000 ∷ 27000 ∷ 64000 ∷ 125000 ∷ 216000 ∷ 343000 ∷ 512000 ∷ []
+ceilings = 1000 ∷ 8000 ∷ 27000 ∷ 64000 ∷ 125000 ∷ 216000 ∷ 343000 ∷ greatestCeiling ∷ []
 
 -- The table's entry for n tasks, if there are 1 to 8; else the row is refused.
 unfoldable pub ceilingOf : ℕ → Ceiling

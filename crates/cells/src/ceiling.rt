@@ -8,6 +8,9 @@ pub enum Ceiling {
     Refused(Refusal),
 }
 
+// The ceiling for 8 tasks, which is the greatest.
+pub const GREATEST: u32 = 512_000;
+
 // The ceilings for 1 to 8 tasks.
 const CEILINGS: [u32; 8] = [
     1_000,
@@ -17,7 +20,7 @@ const CEILINGS: [u32; 8] = [
     125_000,
     216_000,
     343_000,
-    512_000,
+    GREATEST,
 ];
 
 // The ceiling for a number of tasks; there is none for 0 or over 8.

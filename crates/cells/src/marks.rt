@@ -1,24 +1,10 @@
 // The marks of a word: a task linked to a cell has its mark there.
 use crate::layout;
 ghost use mathlib.Core.Path.{_≡_};
-ghost use Rattle.cells.specs.Layout.{value, marks, markOf, hasMark, addMark, removeMark};
+ghost use Rattle.cells.specs.Layout.{markOf, hasMark, addMark, removeMark};
 
 // The marks that a conditional store leaves.
 pub const NO_MARKS: u8 = 0;
-
-// The word without its marks.
-pub fn value_of(word: u64) -> u64
-    ensures { λ r. ⌜ r ≡ value word ⌝ }
-{
-    word / layout::MARKS_SIZE
-}
-
-// The marks of a word.
-pub fn marks_of(word: u64) -> u8
-    ensures { λ r. ⌜ r ≡ marks word ⌝ }
-{
-    (word % layout::MARKS_SIZE) as u8
-}
 
 // The place value of a task's mark; 0 for a task beyond the marks.
 pub fn mark_of(task: usize) -> u64

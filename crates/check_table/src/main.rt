@@ -47,7 +47,7 @@ fn report(file: &[u8]) {
 
 // One byte more than the longest file is room enough to see that a file is too long.
 fn main() {
-    let mut room = [0u8; 20497];
+    let mut room = [0u8; table::LONGEST_FILE + 1];
     let length = io::read_full(0, &mut room);
     report(&room[..length]);
 }

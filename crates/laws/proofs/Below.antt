@@ -55,15 +55,3 @@ none-at n test e k h = by (test k) refl
     by : (b : Bool) → test k ≡ b → b ≡ false
     by true q = sym (any-of n test k h q) ∙ e
     by false q = refl
-
--- What holds at some number holds at one that can be named.
-pub any-at : (n : ℕ) (test : ℕ → Bool) → anyBelow n test ≡ true → (k : ℕ) × ((k < n) × (test k ≡ true))
-unfolding anyBelow
-any-at zero test e = absurd (false≢true e)
-any-at (suc n) test e = by (test n) refl (any-at n test)
-  where
-    by : (b : Bool) → test n ≡ b → (anyBelow n test ≡ true → (k : ℕ) × ((k < n) × (test k ≡ true))) → (k : ℕ) × ((k < suc n) × (test k ≡ true))
-    by true q below = (n, (omega arith, q))
-    by false q below =
-        let found : (k : ℕ) × ((k < n) × (test k ≡ true)) = below (sym (ap (λ (b : Bool). b || anyBelow n test) q) ∙ e) in
-        (found .0, (omega (arith, found .1 .0), found .1 .1))

@@ -3,7 +3,7 @@ use Prim.Native.Nat.{ℕ, _<_}
 use mathlib.Core.Path.{_≡_, sym, ap, _∙_}
 use mathlib.Core.Bool.{true}
 use mathlib.Core.List.{List}
-use borrow.Author.Tests.{ltb-true, lt-ltb}
+use borrow.Author.Tests.{ltb-true}
 use Rattle.laws.proofs.Choice.{taken}
 use Rattle.refusal.specs.declared.Refusal.the-variants.{NextState}
 use Rattle.table.specs.declared.Shape.{Shape}
@@ -22,10 +22,6 @@ module _ (file : List ℕ) (shape : Shape) where
   unfolding entryInRange
   next-below state operation e = ltb-true _ _ e
 
-  pub below-next : (state operation : ℕ) → entryOf file shape state operation .next < shape .states → entryInRange file shape state operation ≡ true
-  unfolding entryInRange
-  below-next state operation h = lt-ltb _ _ h
-
   -- The entries of an operation that was tested.
   pub operation-entry : (operation : ℕ) → operationInRange file shape operation ≡ true → (state : ℕ) → state < shape .states → entryInRange file shape state operation ≡ true
   unfolding operationInRange
@@ -43,14 +39,10 @@ module _ (file : List ℕ) (shape : Shape) where
       (t .1, sym (ap (entriesInRange file) i) ∙ t .0)
   parts (Refused cause) e = absurd (refused cause shape e)
 
-  -- A table is accepted exactly if its layout is, with the same shape, and all its entries are in range.
+  -- The layout of an accepted table is accepted, with the same shape, and all its entries are in range.
   pub accepted-parts : checkOf file ≡ Accepted shape → (layoutOf file ≡ Accepted shape) × (entriesInRange file shape ≡ true)
   unfolding checkOf
   accepted-parts e = parts (layoutOf file) e
-
-  pub parts-accepted : layoutOf file ≡ Accepted shape → entriesInRange file shape ≡ true → checkOf file ≡ Accepted shape
-  unfolding checkOf
-  parts-accepted l e = simp (l, e)
 
   module _ (accepted : checkOf file ≡ Accepted shape) where
     -- None of causes 1 to 3 holds: the ranges of the dimensions, and the shape that the trailer says.
@@ -68,11 +60,7 @@ module _ (file : List ℕ) (shape : Shape) where
     pub accepted-next : (state operation : ℕ) → state < shape .states → operation < shape .operations → entryOf file shape state operation .next < shape .states
     accepted-next state operation q o = next-below state operation (accepted-entry state operation q o)
 
-  -- An entry holds two bytes.
-  pub next-byte : Bytes file → (state operation : ℕ) → entryOf file shape state operation .next < 256
-  unfolding entryOf
-  next-byte bytes state operation = bytes _
-
+  -- A response is a byte.
   pub response-byte : Bytes file → (state operation : ℕ) → entryOf file shape state operation .response < 256
   unfolding entryOf
   response-byte bytes state operation = bytes _

@@ -4,8 +4,7 @@ use mathlib.Core.Path.{_≡_, sym, ap, _∙_}
 use mathlib.Core.Bool.{true, and-eq-true-iff}
 use mathlib.Core.List.{List}
 use native.Mathlib.Omega.{arith}
-use native.Mathlib.Nat.{mul-le-mul-right, suc-mul}
-use borrow.Author.Tests.{leb-true, ltb-true, eqb-true, le-leb, lt-ltb, eq-eqb}
+use borrow.Author.Tests.{leb-true, ltb-true, eqb-true}
 use lib.ListN.{length}
 use Rattle.laws.proofs.Clash.{never}
 use Rattle.laws.proofs.Choice.{taken}
@@ -14,7 +13,7 @@ use Rattle.refusal.specs.declared.Refusal.the-variants.{File, Dimensions, Lengt
 use Rattle.table.specs.declared.Shape.{Shape}
 use Rattle.table.specs.declared.Checked.the-variants.{Accepted, Refused}
 use Rattle.table.specs.File.{endsInMark, shapeOf, trailerBytes}
-use Rattle.table.specs.Entries.{entryBytes, entryPlace}
+use Rattle.table.specs.Entries.{entryBytes}
 use Rattle.table.specs.Layout.{longestFile, mostStates, mostOperations, greatestOffset, fileFits, dimensionsFit, lengthFits, layoutOf}
 
 -- The negations of causes 1 to 3, one by one, for a file and its shape.
@@ -82,14 +81,3 @@ module _ (file : List ℕ) (shape : Shape) where
         little-text = k .0;
         adds-up = k .1;
       }
-
-  -- A layout for which none of causes 1 to 3 holds is accepted.
-  pub fitting-layout : Fitting file shape → layoutOf file ≡ Accepted shape
-  unfolding layoutOf fileFits dimensionsFit lengthFits
-  fitting-layout t =
-      simp (sym (t .shape-is), le-leb _ _ (t .not-short), le-leb _ _ (t .not-long), t .marked, le-leb _ _ (t .some-state), le-leb _ _ (t .few-states), le-leb _ _ (t .some-operation), le-leb _ _ (t .few-operations), lt-ltb _ _ (t .start-below), le-leb _ _ (t .little-text), eq-eqb _ _ (t .adds-up))
-
-  -- Every entry of the table lies in the file, before the trailer.
-  pub entry-inside : Fitting file shape → (state operation : ℕ) → state < shape .states → operation < shape .operations → entryPlace shape state operation + entryBytes + trailerBytes ≤ length file
-  entry-inside t state operation q o =
-      omega (arith, t .adds-up, suc-mul state (shape .operations), mul-le-mul-right {m = suc state} (shape .operations) q)

@@ -13,7 +13,8 @@ const TRAILER_BYTES: usize = 16;
 
 const MARK_BYTES: usize = 6;
 
-const LONGEST_FILE: usize = 20_496;
+// The length of the longest file.
+pub const LONGEST_FILE: usize = 20_496;
 
 const MOST_STATES: u16 = 256;
 
