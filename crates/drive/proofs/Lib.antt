@@ -1,5 +1,4 @@
 pub mod Values
-pub mod TaskCalls
-pub mod RecordCalls
+pub mod Records
 pub mod Calls
 pub mod Starts

@@ -11,7 +11,7 @@ use Rattle.laws.specs.Below.{allBelow}
 use Rattle.laws.proofs.Below.{all-at}
 use Rattle.laws.proofs.Clash.{never}
 use Rattle.refusal.specs.declared.Refusal.{Refusal}
-use Rattle.cells.specs.Ceiling.{ceilings, ceilingOf}
+use Rattle.cells.specs.Ceiling.{greatestCeiling, ceilings, ceilingOf}
 use Rattle.cells.specs.declared.ceiling.Ceiling.{Ceiling}
 use Rattle.cells.specs.declared.ceiling.Ceiling.the-variants as ceiling
 use Rattle.table.specs.declared.Shape.{Shape}
@@ -25,13 +25,13 @@ use Rattle.stepping.specs.Call.{withCeiling, withRow, admitOf}
 pub record Ranges (n c : ℕ) : Type 0 where
   pub some : 0 < n
   pub few : n ≤ 8
-  pub low : c ≤ 512000
+  pub low : c ≤ greatestCeiling
 
 refused : {reason : Refusal} {c : ℕ} → ceiling.Refused reason ≡ ceiling.Steps c → ⊥
 refused e = never cc
 
 small : ℕ → Bool
-small k = leb (getD ceilings k 0) 512000
+small k = leb (getD ceilings k 0) greatestCeiling
 
 pub ceiling-ranges : (n c : ℕ) → ceilingOf n ≡ ceiling.Steps c → Ranges n c
 unfolding ceilingOf small allBelow
@@ -42,7 +42,7 @@ ceiling-ranges n c e = at (leb 1 n) (leb n 8) refl refl
         let r : getD ceilings (n - 1) 0 ≡ c = cc (simp (p, q) at e) in
         let l : n ≤ 8 = leb-true n 8 q in
         let s : 1 ≤ n = leb-true 1 n p in
-        record { some = omega arith; few = l; low = rw r at (leb-true (getD ceilings (n - 1) 0) 512000 (all-at 8 small refl (n - 1) (omega arith))) }
+        record { some = omega arith; few = l; low = rw r at (leb-true (getD ceilings (n - 1) 0) greatestCeiling (all-at 8 small refl (n - 1) (omega arith))) }
     at true false p q = absurd (refused (simp (p, q) at e))
     at false b p q = absurd (refused (simp p at e))
 

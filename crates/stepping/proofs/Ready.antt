@@ -7,6 +7,7 @@ use native.Mathlib.Omega.{arith}
 use borrow.Author.Tests.{eqb-true, ltb-true, lt-ltb}
 use lib.Dec.{eqb, ltb}
 use Rattle.laws.proofs.Clash.{never}
+use Rattle.cells.specs.Ceiling.{greatestCeiling}
 use Rattle.table.specs.declared.Shape.{Shape}
 use Rattle.records.specs.declared.record.Task.{Task}
 use Rattle.records.specs.declared.phase.Phase.{Phase}
@@ -105,7 +106,7 @@ pub record Ready (file : List ℕ) (shape : Shape) (n k i : ℕ) (t : Task) (f :
   pub steps : t .steps < 1000000
   pub cell : touched (planOf file shape i (t .priority) t f) < k
 
-pub ready : (file : List ℕ) (shape : Shape) (n c k i : ℕ) (t : Task) (f : Phase) → c ≤ 512000 → k ≡ n + 1 → i < n → readRecord shape n c t ≡ Known f → Ready file shape n k i t f
+pub ready : (file : List ℕ) (shape : Shape) (n c k i : ℕ) (t : Task) (f : Phase) → c ≤ greatestCeiling → k ≡ n + 1 → i < n → readRecord shape n c t ≡ Known f → Ready file shape n k i t f
 ready file shape n c k i t f low count own e =
     let read = read-parts shape n c t f e in
     let form = formed shape n c t (read .0) in

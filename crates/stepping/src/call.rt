@@ -24,6 +24,7 @@ ghost use mathlib.Core.Path.{_≡_};
 ghost use mathlib.Core.Bool.{cond};
 ghost use Prim.Native.Nat.{_+_, _≤_, _<_};
 ghost use lib.ListN.{length};
+ghost use Rattle.cells.specs.Ceiling.{greatestCeiling};
 ghost use Rattle.table.specs.Entries.{changing};
 ghost use Rattle.records.specs.Phase.{phaseOf, phaseNumber};
 ghost use Rattle.records.specs.Record.{idleInForm, readRecord};
@@ -244,7 +245,7 @@ fn step_known(
     own: Task,
     phase: Phase,
 ) -> Step
-    requires { ⌜ (0 < tasks) × (tasks ≤ 8) × (ceiling ≤ 512000) × (task < tasks) × (length (now cells) ≡ tasks + 1) × (phaseOf (own .phase) ≡ PhaseRead.Known phase) ⌝ }
+    requires { ⌜ (0 < tasks) × (tasks ≤ 8) × (ceiling ≤ greatestCeiling) × (task < tasks) × (length (now cells) ≡ tasks + 1) × (phaseOf (own .phase) ≡ PhaseRead.Known phase) ⌝ }
     ensures { λ r. ⌜ record { cells = now (cells .exit); task = r .task; answer = r .answer } ≡ stepFrom (now (file .entry)) shape (now (cells .entry)) tasks task own (readRecord shape tasks ceiling own) ⌝ }
 {
     if own.phase == 0 {
@@ -269,7 +270,7 @@ fn step_in(
     task: usize,
     own: Task,
 ) -> Step
-    requires { ⌜ (0 < tasks) × (tasks ≤ 8) × (ceiling ≤ 512000) ⌝ }
+    requires { ⌜ (0 < tasks) × (tasks ≤ 8) × (ceiling ≤ greatestCeiling) ⌝ }
     ensures { λ r. ⌜ record { cells = now (cells .exit); task = r .task; answer = r .answer } ≡ stepIn (now (file .entry)) (now (cells .entry)) tasks task own (Admitted.Admits ceiling shape) ⌝ }
 {
     if cells.len() != tasks + 1 {

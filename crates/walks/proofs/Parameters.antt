@@ -42,6 +42,9 @@ module _ {n : ℕ} where
     opens = λ 𝓤 H A W κs x w. subst (λ (F : Fml). ent 𝓤 (sem 𝓤 H A F) (guard 𝓤 (Unit {0}) (emp 𝓤))) (sym (silent κs x w)) (guardI 𝓤 (Unit {0}) (emp 𝓤) tt);
   }
 
+  abbrev pub silent : (R : RattleType) → ((x : R .Denot) (w : Last (R .exit yes) x) → left (R .exit yes) x w ≡ ftrue) → Comes n (plain (λ _. R))
+  silent R says = nothing-back (plain (λ _. R)) (λ κs x w. says x w)
+
   -- The last list of a `&mut [T]`, which is as long as the list passed.
   abbrev pub list-back : (j : ℕ) (ok : Within n j) (R : RattleType) → Comes n (mutSliceOf (j ∷ []) ok (plain (λ _. R)))
   list-back j ok R = record {

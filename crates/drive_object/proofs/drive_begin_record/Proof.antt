@@ -64,7 +64,7 @@ module _ {M : Type 1} (𝓤 : URA M) (H : Heap 𝓤) (A : Atoms 𝓤) (at-mem : 
       calls-at ! fm Word known-w (told b v) (and-then ! (held ! 9 refl) (no-more !)) (λ v′.
       returned word.signature W (nothing-back (plain (λ _. N.the-row)) (λ κs x w. refl), tt) (word.clauses 𝓤 H A at-mem run) (told b v) v′ (λ r ws. r ≡ beginWord b) (λ r ws. id⊢ 𝓤 _) ! tt (λ r ws er kn′.
       move ! (2 ∷ []) $ peeks ! u64 (Is u64) (shows 𝓤 H A u64) r (v′ ∷ []) (λ ir. land ! (from ! (stop !)) (init ! 23 refl (uint-lawful 𝓤 H A W w64 .typed r _ ir .0)) $
-      returns ! (look ! 23 refl) $ move ! (down 23 8) $ frees-locals ! refl $ keep ! (8 ∷ 9 ∷ 10 ∷ 11 ∷ 12 ∷ 3 ∷ 0 ∷ []) $
+      returns ! (look ! 23 refl) $ move ! (down 23 8) $ frees-locals ! 8 refl $ keep ! (8 ∷ 9 ∷ 10 ∷ 11 ∷ 12 ∷ 3 ∷ 0 ∷ []) $
       by ! (exits fn.signature params 𝓤 H A W (fn.clauses 𝓤 H A at-mem run) y v′ r (tt, (tt, (tt, (tt, (zs .1 .1 .1 .1 .0, tt))))) (tt, (tt, (tt, (tt, (tt, tt))))) (factI 𝓤 _ (emp 𝓤) (word-said (a .0 .now) (a .1 .0) (a .1 .1 .0) (a .1 .1 .1 .0) (a .1 .1 .1 .1 .0 .now) (zs .1 .1 .1 .1 .0) b r e er)))))))))))))))))
 
 pub drive-begin-record-spec : {M : Type 1} → stated.statement M

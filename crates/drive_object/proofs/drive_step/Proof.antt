@@ -64,7 +64,7 @@ module _ {M : Type 1} (𝓤 : URA M) (H : Heap 𝓤) (A : Atoms 𝓤) (at-mem : 
       calls-at ! fm Word known-w (told b v) (and-then ! (held ! 14 refl) (no-more !)) (λ v′.
       returned word.signature W (nothing-back (plain (λ _. N.the-row)) (λ κs x w. refl), tt) (word.clauses 𝓤 H A at-mem run) (told b v) v′ (λ r ws. r ≡ stepWord b) (λ r ws. id⊢ 𝓤 _) ! tt (λ r ws er kn′.
       move ! (2 ∷ []) $ peeks ! u64 (Is u64) (shows 𝓤 H A u64) r (v′ ∷ []) (λ ir. land ! (from ! (stop !)) (init ! 26 refl (uint-lawful 𝓤 H A W w64 .typed r _ ir .0)) $
-      returns ! (look ! 26 refl) $ move ! (down 26 10) $ frees-locals ! refl $ keep ! (7 ∷ 8 ∷ 5 ∷ 4 ∷ 9 ∷ 0 ∷ []) $
+      returns ! (look ! 26 refl) $ move ! (down 26 10) $ frees-locals ! 10 refl $ keep ! (7 ∷ 8 ∷ 5 ∷ 4 ∷ 9 ∷ 0 ∷ []) $
       by ! (exits fn.signature params 𝓤 H A W (fn.clauses 𝓤 H A at-mem run) y v′ r (tt, (zs .1 .0, (zs .1 .1 .0, (tt, tt)))) (tt, (kn .1 .0, (kn .1 .1 .0, (tt, tt)))) (factI 𝓤 _ (emp 𝓤) (word-said (a .0 .now) (a .1 .0 .now) (a .1 .1 .0 .now) (a .1 .1 .1 .0) (zs .1 .0) (zs .1 .1 .0) b r e er)))))))))))))))))))
 
 pub drive-step-spec : {M : Type 1} → stated.statement M
