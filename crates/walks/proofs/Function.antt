@@ -10,7 +10,7 @@ use base.Logic.{SProp, ent, sep, emp, ex, id⊢, via, comm∗, monoL, monoR, emp
 use base.Fml.{Lft, flft, fres}
 use prog.Routine.{Name, Env}
 use prog.Model.{Model}
-use prog.Wp.{Heap, WpFn, Closed}
+use prog.Wp.{Heap, Calls, Loops, Tables, WpFn, Closed}
 use ghost.Atoms.{Atoms, sem}
 use contract.Lifetimes.{Lfts, Shares, AllOutlive, toks}
 use contract.Monad.{fact}
@@ -28,7 +28,7 @@ use denote.Signature.{Slot, Signature, typesAt, typeAt}
 use denote.Triple.End.{Fins, lastsOf}
 use denote.Triple.Entry.{Args, Res, Vals, onEntry}
 use denote.Triple.Clauses.{Ended, Clauses, Lasts, lasts, atExit, closing}
-use denote.Triple.Spec.{Spec, tripleOf}
+use denote.Triple.Spec.{Spec, Meets, tripleOf}
 use denote.Triple.Statement.{Triple}
 use denote.Triple.Table.{entered}
 use denote.Triple.Walked.{hasOf, Fit, walkOf, ends-at, walked, walk-meets}
@@ -211,21 +211,29 @@ module _ (S : Signature) (ps : Handleds (S .params)) where
 
 -- ---- The contract
 
+module _ (S : Signature) (ps : Handleds (S .params)) {M : Type 1} (𝓤 : URA M) (H : Heap 𝓤) (A : Atoms 𝓤) (W : Given 𝓤 H A) (c : Clauses 𝓤 (endedOf S)) (f : Fn) where
+  -- A walk of a function's code, over tables of calls and loops, from what it has at entry to what it leaves at exit.
+  abbrev pub WalkOf : Calls 𝓤 H → Loops 𝓤 H → Type 1
+  WalkOf C Λ = (κs : Lfts (S .lifetimes)) (qs : Shares (S .lifetimes)) (bounds : AllOutlive (S .lifetimes) (S .outlives) κs) (a : Args S κs) (g : c κs a .ghost)
+      → Are (typesAt (S .params) κs) (Ises (typesAt (S .params) κs)) a (passedAs S ps κs a)
+      → ent 𝓤 (sep 𝓤 (onEntry 𝓤 H A S κs qs a (passedAs S ps κs a)) (c κs a .requires g)) (WpFn 𝓤 H C Λ f (flat (typesAt (S .params) κs) (passedAs S ps κs a)) (PostOf S ps 𝓤 H A W c ((κs, qs, bounds, a, passedAs S ps κs a), g)))
+
+  -- It gives the function's contract.
+  pub walked-through : (𝓣 : Tables 𝓤 H) → WalkOf (𝓣 .C) (𝓣 .Λ) → Meets 𝓤 H A S (WpFn 𝓤 H (𝓣 .C) (𝓣 .Λ) f) (closing 𝓤 H A (endedOf S) c)
+  walked-through 𝓣 walk =
+      walk-meets 𝓤 H A (endedOf S) (staysOf (S .params) ps) W (goesOf 𝓤 H A W (S .params) ps) c (WpFn 𝓤 H (𝓣 .C) (𝓣 .Λ) f) (WpFn-mono 𝓤 H (W .laws) 𝓣 f)
+      (walked 𝓤 H A (endedOf S) (staysOf (S .params) ps) c (WpFn 𝓤 H (𝓣 .C) (𝓣 .Λ) f) (spellsOf (S .params) ps) (tellsOf (S .params) ps) walk)
+
 module _ {M : Type 1} (𝓤 : URA M) (H : Heap 𝓤) (𝓜 : Model 𝓤 H) (𝓖 : GhostRules 𝓤 H) (𝓡 : Running 𝓤 H 𝓜) (S : Signature) (ps : Handleds (S .params)) (c : Clauses 𝓤 (endedOf S)) (γ : Env) (k : Name) (f : Fn) where
   abbrev W : Given 𝓤 H (𝓖 .A)
   W = givenOf 𝓤 H 𝓜 𝓖
 
-  -- A function whose code is walked, from what it has at entry to what it leaves at exit, meets its contract.
+  -- The same over what a function's calls mean.
   pub meets-by-walk : Closed 𝓤 H (tables 𝓤 H 𝓜 𝓡 γ .C) (tables 𝓤 H 𝓜 𝓡 γ .Λ) k f
-      → (FmC 𝓤 H (W .laws) (tables 𝓤 H 𝓜 𝓡 γ .C) → (κs : Lfts (S .lifetimes)) (qs : Shares (S .lifetimes)) (bounds : AllOutlive (S .lifetimes) (S .outlives) κs) (a : Args S κs) (g : c κs a .ghost)
-      → Are (typesAt (S .params) κs) (Ises (typesAt (S .params) κs)) a (passedAs S ps κs a)
-      → ent 𝓤 (sep 𝓤 (onEntry 𝓤 H (𝓖 .A) S κs qs a (passedAs S ps κs a)) (c κs a .requires g)) (WpFn 𝓤 H (tables 𝓤 H 𝓜 𝓡 γ .C) (tables 𝓤 H 𝓜 𝓡 γ .Λ) f (flat (typesAt (S .params) κs) (passedAs S ps κs a)) (PostOf S ps 𝓤 H (𝓖 .A) W c ((κs, qs, bounds, a, passedAs S ps κs a), g))))
+      → (FmC 𝓤 H (W .laws) (tables 𝓤 H 𝓜 𝓡 γ .C) → WalkOf S ps 𝓤 H (𝓖 .A) W c f (tables 𝓤 H 𝓜 𝓡 γ .C) (tables 𝓤 H 𝓜 𝓡 γ .Λ))
       → Triple 𝓤 (tables 𝓤 H 𝓜 𝓡 γ .C k) (tripleOf 𝓤 H (𝓖 .A) S (closing 𝓤 H (𝓖 .A) (endedOf S) c))
   unfolding tablesOf
   meets-by-walk closed walk =
-      let T = endedOf S in
-      let hs = staysOf (S .params) ps in
       let 𝓣 = tablesOf 𝓤 H 𝓜 (tables 𝓤 H 𝓜 𝓡 γ) in
-      entered 𝓤 H (tripleOf 𝓤 H (𝓖 .A) S (closing 𝓤 H (𝓖 .A) T c)) (tables 𝓤 H 𝓜 𝓡 γ .C) (tables 𝓤 H 𝓜 𝓡 γ .Λ) k f closed
-      (walk-meets 𝓤 H (𝓖 .A) T hs W (goesOf 𝓤 H (𝓖 .A) W (S .params) ps) c (WpFn 𝓤 H (𝓣 .C) (𝓣 .Λ) f) (WpFn-mono 𝓤 H (W .laws) 𝓣 f)
-      (walked 𝓤 H (𝓖 .A) T hs c (WpFn 𝓤 H (𝓣 .C) (𝓣 .Λ) f) (spellsOf (S .params) ps) (tellsOf (S .params) ps) (walk (fmOf 𝓤 H (W .laws) 𝓣))))
+      entered 𝓤 H (tripleOf 𝓤 H (𝓖 .A) S (closing 𝓤 H (𝓖 .A) (endedOf S) c)) (tables 𝓤 H 𝓜 𝓡 γ .C) (tables 𝓤 H 𝓜 𝓡 γ .Λ) k f closed
+      (walked-through S ps 𝓤 H (𝓖 .A) W c f 𝓣 (walk (fmOf 𝓤 H (W .laws) 𝓣)))
