@@ -20,6 +20,10 @@ use denote.Array.{Array, array-vals, array-tells, array-makes}
 use denote.ArrayMemory.{array-apart, array-whole}
 use denote.Index.{place, row, whole-in, whole-out}
 use denote.Steps.{owned, peeks, nothing, only}
+use denote.Exit.{yes}
+use denote.Signature.{plain}
+use denote.Triple.Walked.{stay-none, goes-none}
+use Rattle.walks.proofs.Parameters.{Handled, silent}
 use denote.Struct.Laws as LL
 use Rattle.records.specs.declared.record.Task.{Task}
 use Rattle.records.proofs.record.Task as T
@@ -32,6 +36,16 @@ machs xs = only (array-vals (LL.vals T.the-type T′.the-laws) xs)
 -- A list is nine records, with their machine value.
 abbrev pub Nine : List Task → Type 0
 Nine xs = Is (Array T.the-row 9) xs (machs xs ∷ [])
+
+-- Nine records by value, as a parameter.
+abbrev pub nine-records : {n : ℕ} → Handled n (plain (λ _. Array T.the-row 9))
+nine-records {n} = record {
+  stay = stay-none (λ _. Array T.the-row 9) yes;
+  goes = λ 𝓤 H A W. goes-none 𝓤 H A W n (λ _. Array T.the-row 9) yes (λ κs x f. refl);
+  spell = λ κs. array-vals (LL.vals T.the-type T′.the-laws);
+  tells = λ κs. array-tells T.the-row (LL.vals T.the-type T′.the-laws) (LL.tells T.the-type T′.the-laws) 9;
+  comes = silent (Array T.the-row 9) (λ x w. refl);
+}
 
 module _ {M : Type 1} (𝓤 : URA M) (H : Heap 𝓤) (A : Atoms 𝓤) (W : Given 𝓤 H A) where
   -- Records lie from a place on.

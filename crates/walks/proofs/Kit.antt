@@ -16,7 +16,7 @@ pub use prog.Wp.{Heap, Calls, Loops, WpFn, Tables}
 pub use ghost.Atoms.{Atoms, sem}
 pub use contract.Monad.{Fun, fact, factI}
 pub use contract.Lifetimes.{Lfts, Shares, toks}
-pub use contract.Running.{givenOf, tables, tablesOf}
+pub use contract.Running.{givenOf, tables}
 pub use types.Kit.{Given, ‵, raw, _⊛_, ⋆, some, later, given, atRet, _$_, _∵_, !, qed, by, move, keep, drop, use0, use1, use2, use3, split, join, pick, learn, fsplit, fjoin, fjoin3, feqI, feqL, frame, await, rewrite, done}
 pub use types.Tokens.{lft-new, lft-end}
 pub use types.Run.{look, look-raw, init, store, store-raw, stop, hop, fld, from, load, bin, lit, addr, of-opd, and-then, no-more, assigns, land, first, branches, skips, exec, returns, returns-within, enter, alloc1, alloc0, params1, pass1, pass0}
@@ -28,7 +28,7 @@ pub use denote.Memory.{mem, pointee}
 pub use denote.Plain.{uint-makes, uint-lawful, uint-tells}
 pub use denote.Builtin.{u8, u64, usize}
 pub use denote.Ref.{RefT, MutRef}
-pub use denote.Slice.{sliceTy, sliceVal, Room, finally, heres, codedHoleys, at-slice, res-finally}
+pub use denote.Slice.{sliceTy, sliceVal, MutSlice, Room, finally, heres, codedHoleys, at-slice, res-finally}
 pub use denote.Lend.{Held, lends-slice, slice-back}
 pub use denote.Index.{place, place-is, elem-out, elem-put, opens-slice, closes-slice}
 pub use denote.Shadow.{pureI}
