@@ -67,35 +67,35 @@ module _ {M : Type 1} (𝓤 : URA M) (H : Heap 𝓤) (A : Atoms 𝓤) (at-mem : 
     walk : Room u8 (length (a .0 .now)) → Room T.the-row (length (a .1 .0 .now)) → a .1 .1 .0 < 2 ^ 64 → a .1 .1 .1 .0 < 2 ^ 64 → a .1 .1 .0 < length (a .1 .0 .now)
         → ent 𝓤 (onEntry 𝓤 H A fn.signature κs qs a (y .0 .4)) (WpFn 𝓤 H C Λ code.function (flat (typesAt (fn.signature .params) κs) (y .0 .4)) (PostOf fn.signature params 𝓤 H A W (fn.clauses 𝓤 H A at-mem run) y))
     walk room₀ room gt go within =
-      let scaled : Fits w64 (a .1 .1 .0 * 32) = scaled-fits (a .1 .1 .0) (length ys) 32 within (room .1) in
-      enters 𝓤 H A W fn.signature κs qs a (y .0 .4) ∵ move ! (1 ∷ []) $ twice W 0 (κs .0) u8 (a .0) $ enter ! C Λ code.function (flat (typesAt (fn.signature .params) κs) (y .0 .4)) _ $
-      alloc1 ! (λ l0. alloc1 ! (λ l1. alloc1 ! (λ l2. alloc1 ! (λ l3. alloc1 ! (λ l4. alloc1 ! (λ l5. alloc1 ! (λ l6. alloc1 ! (λ l7. alloc1 ! (λ l8. alloc1 ! (λ l9. alloc1 ! (λ l10. alloc1 ! (λ l11. alloc1 ! (λ l12. alloc0 ! $ params1 ! $
-      pass1 ! (init ! 22 refl (tt, (tt, (record { fits = room₀ .0 }, tt)))) $ pass1 ! (init ! 20 refl (tt, (tt, (record { fits = room .0 }, tt)))) $ pass1 ! (init ! 18 refl (tt, record { fits = gt })) $ pass1 ! (init ! 16 refl (tt, record { fits = go })) $ pass0 ! $
-      assigns ! (of-opd ! (load ! (from ! (fld ! refl (stop !))) (look-in ! 20 (sub ! 1 refl (whole !))))) (from ! (stop !)) (init ! 14 refl (tt, record { fits = room .0 })) $
-      assigns ! (bin ! (held ! 18 refl) (lit ! tt) scaled) (from ! (stop !)) (init ! 8 refl (tt, scaled)) $
-      assigns ! (bin ! (load ! (from ! (fld ! refl (stop !))) (look-in ! 20 (sub ! 0 refl (whole !)))) (held ! 8 refl) tt) (from ! (stop !)) (init ! 6 refl (tt, tt)) $
-      rewrite ! 6 (λ (p : ℕ). ‵ (fat fullShare tyPtr l9 0 (vptr block p))) (sym (place-is 32 offset (a .1 .1 .0))) refl $ move ! (29 ∷ []) $ fsplit ! $ drop ! $ fsplit ! $ move ! (30 ∷ []) $ tokens-apart W 2 κs qs $ move ! (2 ∷ 3 ∷ 1 ∷ []) $ opens-slice ! tt T.the-row ys block offset $
-      elem-out ! T.the-row (Is T.the-row) (shows 𝓤 H A T.the-row) (LL.vals T.the-type T′.the-laws) (LL.tells T.the-type T′.the-laws) fullShare ys (a .1 .1 .0) (idleTask 0) block offset within (λ was.
-      assigns ! (of-opd ! (load ! (from ! (hop ! (look ! 13 refl) (stop !))) (look-raw ! 0 refl))) (from ! (stop !)) (init ! 11 refl (LL.lawful T.the-type T′.the-laws 𝓤 H A W .typed h _ was .0)) $
-      assigns ! (of-opd ! (held ! 11 refl)) (from ! (stop !)) (init ! 19 refl (LL.lawful T.the-type T′.the-laws 𝓤 H A W .typed h _ was .0)) $
-      assigns ! (addr ! (from ! (stop !))) (from ! (stop !)) (init ! 9 refl (tt, tt)) $ lft-new ! tt (λ α. move ! (20 ∷ []) $
-      use1 W (later (some (λ (δ : GName). ‵ (MutRef (named 1) (α ∷ []) T.the-row .own (lent l6 δ) (vptr l6 0 ∷ [])) ⊛ ‵ (flent (α ∷ []) (RecordBody l6 δ))))) (lends-record 𝓤 H A W (named 1) (α ∷ []) h l6 was) $
-      await ! tt $ pick ! (λ δ. split ! $ counted W (length ys) (room .0) $ counted W (a .1 .1 .0) gt $ counted W (a .1 .1 .1 .0) go $ move ! (12 ∷ 5 ∷ []) $ tokens-together W 2 (κsα α) qsα $ move ! (0 ∷ 37 ∷ 3 ∷ 2 ∷ 1 ∷ 4 ∷ []) $ hands 𝓤 H A W core.signature (core.spec 𝓤 H A at-mem run) (passed α δ l6) (id⊢ 𝓤 (emp 𝓤)) $
-      calls-at ! fm Core known-c (passed α δ l6) (and-then ! (held ! 29 refl) (and-then ! (held ! 21 refl) (and-then ! (held ! 25 refl) (and-then ! (held ! 23 refl) (and-then ! (held ! 10 refl) (no-more !)))))) (λ v.
-      returned core.signature W (shared-slice 0 tt u8 .comes, (number .comes, (number .comes, (number .comes, (value-back 1 tt T.the-row, tt))))) (core.clauses 𝓤 H A at-mem run) (passed α δ l6) v (λ b zs. BeginTaskSaid (a .0 .now) (length ys) (a .1 .1 .0) (a .1 .1 .1 .0) h (zs .1 .1 .1 .1 .0) b) (λ b zs. id⊢ 𝓤 _) ! tt (λ b zs e kn.
-      move ! (6 ∷ []) $ peeks ! N.the-row (Is N.the-row) (shows 𝓤 H A N.the-row) b (v ∷ []) (λ is. land ! (from ! (stop !)) (init ! 24 refl (EL.lawful N.the-type N′.the-laws 𝓤 H A W tt .typed b _ is .0)) $
-      move ! (6 ∷ []) $ tokens-apart W 2 (κsα α) qsα $ move ! (1 ∷ []) $ lft-end ! tt $ move ! (0 ∷ 8 ∷ 3 ∷ []) $
-      use3 W (later (given (Plain (zs .1 .1 .1 .1 .0)) (‵ (record-at (zs .1 .1 .1 .1 .0) l6)))) (record-back 𝓤 H A W (α ∷ []) δ (zs .1 .1 .1 .1 .0) l6) $ await ! tt $ learn ! (λ is′.
-      assigns ! (of-opd ! (held ! 0 refl)) (from ! (stop !)) (store ! 17 refl (LL.lawful T.the-type T′.the-laws 𝓤 H A W .typed (zs .1 .1 .1 .1 .0) _ is′ .0)) $
-      assigns ! (bin ! (held ! 30 refl) (lit ! tt) scaled) (from ! (stop !)) (store ! 21 refl (tt, scaled)) $
-      assigns ! (bin ! (load ! (from ! (fld ! refl (stop !))) (look-in ! 32 (sub ! 0 refl (whole !)))) (held ! 21 refl) tt) (from ! (stop !)) (init ! 13 refl (tt, tt)) $
-      rewrite ! 13 (λ (p : ℕ). ‵ (fat fullShare tyPtr l12 0 (vptr block p))) (sym (place-is 32 offset (a .1 .1 .0))) refl $
-      assigns ! (of-opd ! (held ! 17 refl)) (from ! (hop ! (look ! 13 refl) (stop !))) (store-raw ! 7 refl (LL.lawful T.the-type T′.the-laws 𝓤 H A W .typed (zs .1 .1 .1 .1 .0) _ is′ .0)) $
-      move ! (8 ∷ []) $ drop ! $ owned ! T.the-row (Is T.the-row) (LL.makes T.the-type T′.the-plain 𝓤 H A) (zs .1 .1 .1 .1 .0) (mach (zs .1 .1 .1 .1 .0) ∷ []) is′ $ move ! (8 ∷ 0 ∷ 9 ∷ []) $ elem-put ! T.the-row fullShare ys (a .1 .1 .0) (zs .1 .1 .1 .1 .0) (mach (zs .1 .1 .1 .1 .0) ∷ []) block offset within $
-      move ! (0 ∷ 8 ∷ 9 ∷ 10 ∷ []) $ closes-slice ! tt T.the-row ys (set ys (a .1 .1 .0) (zs .1 .1 .1 .1 .0)) (length-set ys (a .1 .1 .0) (zs .1 .1 .1 .1 .0)) block offset $
-      assigns ! (of-opd ! (held ! 20 refl)) (from ! (stop !)) (init ! 33 refl (EL.lawful N.the-type N′.the-laws 𝓤 H A W tt .typed b _ is .0)) $
-      returns ! (look ! 33 refl) $ move ! (33 ∷ 34 ∷ 31 ∷ 32 ∷ 29 ∷ 30 ∷ 27 ∷ 28 ∷ 25 ∷ 26 ∷ 23 ∷ 24 ∷ 3 ∷ 22 ∷ 20 ∷ 21 ∷ 18 ∷ 19 ∷ 16 ∷ 17 ∷ 14 ∷ 15 ∷ 12 ∷ 13 ∷ 10 ∷ 11 ∷ []) $ frees-locals ! 13 refl $ fjoin ! $ pureI ! (at-slice T.the-row (record { ptr = (block, offset); name = a .1 .0 .name; now = set ys (a .1 .1 .0) (zs .1 .1 .1 .1 .0) }) (sliceVal (block, offset) (length ys) ∷ [])) (tt, (tt, tt)) (ap (λ (m : ℕ). sliceVal (block, offset) m ∷ []) (sym (length-set ys (a .1 .1 .0) (zs .1 .1 .1 .1 .0))), subst (Room T.the-row) (sym (length-set ys (a .1 .1 .0) (zs .1 .1 .1 .1 .0))) room) $ fjoin ! $ move ! (2 ∷ 1 ∷ []) $ tokens-together W 2 κs qs $ keep ! (0 ∷ 7 ∷ 1 ∷ 8 ∷ 9 ∷ 2 ∷ []) $
-      by ! (exits fn.signature params 𝓤 H A W (fn.clauses 𝓤 H A at-mem run) y v b (tt, (set ys (a .1 .1 .0) (zs .1 .1 .1 .1 .0), (tt, (tt, tt)))) (tt, (length-set ys (a .1 .1 .0) (zs .1 .1 .1 .1 .0), (tt, (tt, tt)))) (factI 𝓤 _ (emp 𝓤) (begin-inside (a .0 .now) ys (a .1 .1 .0) (a .1 .1 .1 .0) (zs .1 .1 .1 .1 .0) b e)))))))))))))))))))))))
+        let scaled : Fits w64 (a .1 .1 .0 * 32) = scaled-fits (a .1 .1 .0) (length ys) 32 within (room .1) in
+        enters 𝓤 H A W fn.signature κs qs a (y .0 .4) ∵ move ! (1 ∷ []) $ twice W 0 (κs .0) u8 (a .0) $ enter ! C Λ code.function (flat (typesAt (fn.signature .params) κs) (y .0 .4)) _ $
+        alloc1 ! (λ l0. alloc1 ! (λ l1. alloc1 ! (λ l2. alloc1 ! (λ l3. alloc1 ! (λ l4. alloc1 ! (λ l5. alloc1 ! (λ l6. alloc1 ! (λ l7. alloc1 ! (λ l8. alloc1 ! (λ l9. alloc1 ! (λ l10. alloc1 ! (λ l11. alloc1 ! (λ l12. alloc0 ! $ params1 ! $
+        pass1 ! (init ! 22 refl (tt, (tt, (record { fits = room₀ .0 }, tt)))) $ pass1 ! (init ! 20 refl (tt, (tt, (record { fits = room .0 }, tt)))) $ pass1 ! (init ! 18 refl (tt, record { fits = gt })) $ pass1 ! (init ! 16 refl (tt, record { fits = go })) $ pass0 ! $
+        assigns ! (of-opd ! (load ! (from ! (fld ! refl (stop !))) (look-in ! 20 (sub ! 1 refl (whole !))))) (from ! (stop !)) (init ! 14 refl (tt, record { fits = room .0 })) $
+        assigns ! (bin ! (held ! 18 refl) (lit ! tt) scaled) (from ! (stop !)) (init ! 8 refl (tt, scaled)) $
+        assigns ! (bin ! (load ! (from ! (fld ! refl (stop !))) (look-in ! 20 (sub ! 0 refl (whole !)))) (held ! 8 refl) tt) (from ! (stop !)) (init ! 6 refl (tt, tt)) $
+        rewrite ! 6 (λ (p : ℕ). ‵ (fat fullShare tyPtr l9 0 (vptr block p))) (sym (place-is 32 offset (a .1 .1 .0))) refl $ move ! (29 ∷ []) $ fsplit ! $ drop ! $ fsplit ! $ move ! (30 ∷ []) $ tokens-apart W 2 κs qs $ move ! (2 ∷ 3 ∷ 1 ∷ []) $ opens-slice ! tt T.the-row ys block offset $
+        elem-out ! T.the-row (Is T.the-row) (shows 𝓤 H A T.the-row) (LL.vals T.the-type T′.the-laws) (LL.tells T.the-type T′.the-laws) fullShare ys (a .1 .1 .0) (idleTask 0) block offset within (λ was.
+        assigns ! (of-opd ! (load ! (from ! (hop ! (look ! 13 refl) (stop !))) (look-raw ! 0 refl))) (from ! (stop !)) (init ! 11 refl (LL.lawful T.the-type T′.the-laws 𝓤 H A W .typed h _ was .0)) $
+        assigns ! (of-opd ! (held ! 11 refl)) (from ! (stop !)) (init ! 19 refl (LL.lawful T.the-type T′.the-laws 𝓤 H A W .typed h _ was .0)) $
+        assigns ! (addr ! (from ! (stop !))) (from ! (stop !)) (init ! 9 refl (tt, tt)) $ lft-new ! tt (λ α. move ! (20 ∷ []) $
+        use1 W (later (some (λ (δ : GName). ‵ (MutRef (named 1) (α ∷ []) T.the-row .own (lent l6 δ) (vptr l6 0 ∷ [])) ⊛ ‵ (flent (α ∷ []) (RecordBody l6 δ))))) (lends-record 𝓤 H A W (named 1) (α ∷ []) h l6 was) $
+        await ! tt $ pick ! (λ δ. split ! $ counted W (length ys) (room .0) $ counted W (a .1 .1 .0) gt $ counted W (a .1 .1 .1 .0) go $ move ! (12 ∷ 5 ∷ []) $ tokens-together W 2 (κsα α) qsα $ move ! (0 ∷ 37 ∷ 3 ∷ 2 ∷ 1 ∷ 4 ∷ []) $ hands 𝓤 H A W core.signature (core.spec 𝓤 H A at-mem run) (passed α δ l6) (id⊢ 𝓤 (emp 𝓤)) $
+        calls-at ! fm Core known-c (passed α δ l6) (and-then ! (held ! 29 refl) (and-then ! (held ! 21 refl) (and-then ! (held ! 25 refl) (and-then ! (held ! 23 refl) (and-then ! (held ! 10 refl) (no-more !)))))) (λ v.
+        returned core.signature W (shared-slice 0 tt u8 .comes, (number .comes, (number .comes, (number .comes, (value-back 1 tt T.the-row, tt))))) (core.clauses 𝓤 H A at-mem run) (passed α δ l6) v (λ b zs. BeginTaskSaid (a .0 .now) (length ys) (a .1 .1 .0) (a .1 .1 .1 .0) h (zs .1 .1 .1 .1 .0) b) (λ b zs. id⊢ 𝓤 _) ! tt (λ b zs e kn.
+        move ! (6 ∷ []) $ peeks ! N.the-row (Is N.the-row) (shows 𝓤 H A N.the-row) b (v ∷ []) (λ is. land ! (from ! (stop !)) (init ! 24 refl (EL.lawful N.the-type N′.the-laws 𝓤 H A W tt .typed b _ is .0)) $
+        move ! (6 ∷ []) $ tokens-apart W 2 (κsα α) qsα $ move ! (1 ∷ []) $ lft-end ! tt $ move ! (0 ∷ 8 ∷ 3 ∷ []) $
+        use3 W (later (given (Plain (zs .1 .1 .1 .1 .0)) (‵ (record-at (zs .1 .1 .1 .1 .0) l6)))) (record-back 𝓤 H A W (α ∷ []) δ (zs .1 .1 .1 .1 .0) l6) $ await ! tt $ learn ! (λ is′.
+        assigns ! (of-opd ! (held ! 0 refl)) (from ! (stop !)) (store ! 17 refl (LL.lawful T.the-type T′.the-laws 𝓤 H A W .typed (zs .1 .1 .1 .1 .0) _ is′ .0)) $
+        assigns ! (bin ! (held ! 30 refl) (lit ! tt) scaled) (from ! (stop !)) (store ! 21 refl (tt, scaled)) $
+        assigns ! (bin ! (load ! (from ! (fld ! refl (stop !))) (look-in ! 32 (sub ! 0 refl (whole !)))) (held ! 21 refl) tt) (from ! (stop !)) (init ! 13 refl (tt, tt)) $
+        rewrite ! 13 (λ (p : ℕ). ‵ (fat fullShare tyPtr l12 0 (vptr block p))) (sym (place-is 32 offset (a .1 .1 .0))) refl $
+        assigns ! (of-opd ! (held ! 17 refl)) (from ! (hop ! (look ! 13 refl) (stop !))) (store-raw ! 7 refl (LL.lawful T.the-type T′.the-laws 𝓤 H A W .typed (zs .1 .1 .1 .1 .0) _ is′ .0)) $
+        move ! (8 ∷ []) $ drop ! $ owned ! T.the-row (Is T.the-row) (LL.makes T.the-type T′.the-plain 𝓤 H A) (zs .1 .1 .1 .1 .0) (mach (zs .1 .1 .1 .1 .0) ∷ []) is′ $ move ! (8 ∷ 0 ∷ 9 ∷ []) $ elem-put ! T.the-row fullShare ys (a .1 .1 .0) (zs .1 .1 .1 .1 .0) (mach (zs .1 .1 .1 .1 .0) ∷ []) block offset within $
+        move ! (0 ∷ 8 ∷ 9 ∷ 10 ∷ []) $ closes-slice ! tt T.the-row ys (set ys (a .1 .1 .0) (zs .1 .1 .1 .1 .0)) (length-set ys (a .1 .1 .0) (zs .1 .1 .1 .1 .0)) block offset $
+        assigns ! (of-opd ! (held ! 20 refl)) (from ! (stop !)) (init ! 33 refl (EL.lawful N.the-type N′.the-laws 𝓤 H A W tt .typed b _ is .0)) $
+        returns ! (look ! 33 refl) $ move ! (33 ∷ 34 ∷ 31 ∷ 32 ∷ 29 ∷ 30 ∷ 27 ∷ 28 ∷ 25 ∷ 26 ∷ 23 ∷ 24 ∷ 3 ∷ 22 ∷ 20 ∷ 21 ∷ 18 ∷ 19 ∷ 16 ∷ 17 ∷ 14 ∷ 15 ∷ 12 ∷ 13 ∷ 10 ∷ 11 ∷ []) $ frees-locals ! 13 refl $ fjoin ! $ pureI ! (at-slice T.the-row (record { ptr = (block, offset); name = a .1 .0 .name; now = set ys (a .1 .1 .0) (zs .1 .1 .1 .1 .0) }) (sliceVal (block, offset) (length ys) ∷ [])) (tt, (tt, tt)) (ap (λ (m : ℕ). sliceVal (block, offset) m ∷ []) (sym (length-set ys (a .1 .1 .0) (zs .1 .1 .1 .1 .0))), subst (Room T.the-row) (sym (length-set ys (a .1 .1 .0) (zs .1 .1 .1 .1 .0))) room) $ fjoin ! $ move ! (2 ∷ 1 ∷ []) $ tokens-together W 2 κs qs $ keep ! (0 ∷ 7 ∷ 1 ∷ 8 ∷ 9 ∷ 2 ∷ []) $
+        by ! (exits fn.signature params 𝓤 H A W (fn.clauses 𝓤 H A at-mem run) y v b (tt, (set ys (a .1 .1 .0) (zs .1 .1 .1 .1 .0), (tt, (tt, tt)))) (tt, (length-set ys (a .1 .1 .0) (zs .1 .1 .1 .1 .0), (tt, (tt, tt)))) (factI 𝓤 _ (emp 𝓤) (begin-inside (a .0 .now) ys (a .1 .1 .0) (a .1 .1 .1 .0) (zs .1 .1 .1 .1 .0) b e)))))))))))))))))))))))
 
 pub begin-in-spec : {M : Type 1} → stated.statement M
 unfolding code.routine

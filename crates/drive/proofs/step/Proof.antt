@@ -54,32 +54,32 @@ module _ {M : Type 1} (𝓤 : URA M) (H : Heap 𝓤) (A : Atoms 𝓤) (at-mem : 
     walk : Room u8 (length (a .0 .now)) → Room u64 (length (a .1 .0 .now)) → Room T.the-row (length (a .1 .1 .0 .now)) → a .1 .1 .1 .0 < 2 ^ 64
         → ent 𝓤 (onEntry 𝓤 H A fn.signature κs qs a (y .0 .4)) (WpFn 𝓤 H C Λ code.function (flat (typesAt (fn.signature .params) κs) (y .0 .4)) (PostOf fn.signature params 𝓤 H A W (fn.clauses 𝓤 H A at-mem run) y))
     walk room₀ room₁ room gt =
-      enters 𝓤 H A W fn.signature κs qs a (y .0 .4) ∵ move ! (1 ∷ []) $ twice W 0 (κs .0) u8 (a .0) $ enter ! C Λ code.function (flat (typesAt (fn.signature .params) κs) (y .0 .4)) _ $
-      alloc1 ! (λ l0. alloc1 ! (λ l1. alloc1 ! (λ l2. alloc1 ! (λ l3. alloc1 ! (λ l4. alloc1 ! (λ l5. alloc1 ! (λ l6. alloc1 ! (λ l7. alloc1 ! (λ l8. alloc1 ! (λ l9. alloc1 ! (λ l10. alloc1 ! (λ l11. alloc1 ! (λ l12. alloc0 ! $ params1 ! $
-      pass1 ! (init ! 22 refl (tt, (tt, (record { fits = room₀ .0 }, tt)))) $ pass1 ! (init ! 20 refl (tt, (tt, (record { fits = room₁ .0 }, tt)))) $ pass1 ! (init ! 18 refl (tt, (tt, (record { fits = room .0 }, tt)))) $ pass1 ! (init ! 16 refl (tt, record { fits = gt })) $ pass0 ! $
-      assigns ! (of-opd ! (load ! (from ! (fld ! refl (stop !))) (look-in ! 18 (sub ! 1 refl (whole !))))) (from ! (stop !)) (init ! 14 refl (tt, record { fits = room .0 })) $
-      assigns ! (bin ! (held ! 14 refl) (held ! 16 refl) tt) (from ! (stop !)) (init ! 12 refl (tt, tt)) $
-      first ! $ branches ! (held ! 12 refl)
-      (λ past.
-      lends-on ! 20 10 8 (refl, refl) refl refl refl (tt, tt) (refl, refl, refl) (tt, (tt, (record { fits = room₁ .0 }, tt))) $
-      move ! (28 ∷ []) $ tokens-apart W 3 κs qs $ counted W (length (a .1 .1 .0 .now)) (room .0) $ counted W (a .1 .1 .1 .0) gt $ move ! (2 ∷ 3 ∷ []) $ tokens-together W 2 κs₀ qs₀ $ move ! (0 ∷ 30 ∷ 32 ∷ 2 ∷ 1 ∷ []) $ hands 𝓤 H A W past-end.signature (past-end.spec 𝓤 H A at-mem run) passed (id⊢ 𝓤 (emp 𝓤)) $
-      calls-at ! fm Past known-p passed (and-then ! (held ! 24 refl) (and-then ! (held ! 10 refl) (and-then ! (held ! 16 refl) (and-then ! (held ! 18 refl) (no-more !))))) (λ v.
-      returned past-end.signature W (shared-slice 0 tt u8 .comes, (list-back 1 tt u64, (number .comes, (number .comes, tt)))) (past-end.clauses 𝓤 H A at-mem run) passed v (λ b zs. IdleStepSaid (a .0 .now) (a .1 .0 .now) (length (a .1 .1 .0 .now)) (a .1 .1 .1 .0) (zs .1 .0) b) (λ b zs. id⊢ 𝓤 _) ! tt (λ b zs e kn.
-      move ! (5 ∷ []) $ peeks ! N.the-row (Is N.the-row) (shows 𝓤 H A N.the-row) b (v ∷ []) (λ is. land ! (from ! (stop !)) (init ! 31 refl (EL.lawful N.the-type N′.the-laws 𝓤 H A W tt .typed b _ is .0)) $
-      returns-within ! Post refl (look ! 31 refl) $ move ! (down 31 13) $ frees-locals ! 13 refl $ move ! (8 ∷ []) $ unused W 2 (κs .1 .1 .0) T.the-row (a .1 .1 .0) $
-      move ! (6 ∷ []) $ tokens-apart W 2 κs₀ qs₀ $ move ! (0 ∷ 1 ∷ 8 ∷ []) $ tokens-together W 3 κs qs $ keep ! (0 ∷ 7 ∷ 5 ∷ 1 ∷ 8 ∷ 2 ∷ []) $
-      by ! (exits fn.signature params 𝓤 H A W (fn.clauses 𝓤 H A at-mem run) y v b (tt, (zs .1 .0, (a .1 .1 .0 .now, (tt, tt)))) (tt, (kn .1 .0, (refl, (tt, tt)))) (factI 𝓤 _ (emp 𝓤) (step-past (a .0 .now) (a .1 .0 .now) (a .1 .1 .0 .now) (a .1 .1 .1 .0) (zs .1 .0) b (leb→le (length (a .1 .1 .0 .now)) (a .1 .1 .1 .0) past) e)))))))
-      (λ inside-row.
-      let within : a .1 .1 .1 .0 < length (a .1 .1 .0 .now) = nleb→lt (length (a .1 .1 .0 .now)) (a .1 .1 .1 .0) inside-row in
-      skips ! $ goes-on ! C Λ 13 mir-of.t-4 Post $
-      lends-on ! 20 6 4 (refl, refl) refl refl refl (tt, tt) (refl, refl, refl) (tt, (tt, (record { fits = room₁ .0 }, tt))) $
-      lends-on ! 18 2 0 (refl, refl) refl refl refl (tt, tt) (refl, refl, refl) (tt, (tt, (record { fits = room .0 }, tt))) $
-      counted W (a .1 .1 .1 .0) gt $ move ! (29 ∷ 27 ∷ 30 ∷ 31 ∷ 0 ∷ []) $ hands 𝓤 H A W inside.signature (inside.spec 𝓤 H A at-mem run) y (factI 𝓤 _ (emp 𝓤) within) $
-      calls-at ! fm Inside known-i y (and-then ! (held ! 23 refl) (and-then ! (held ! 5 refl) (and-then ! (held ! 1 refl) (and-then ! (held ! 17 refl) (no-more !))))) (λ v.
-      returned inside.signature W (comesOf (fn.signature .params) params) (inside.clauses 𝓤 H A at-mem run) y v (λ b zs. StepSaid (a .0 .now) (a .1 .0 .now) (a .1 .1 .0 .now) (a .1 .1 .1 .0) (zs .1 .0) (zs .1 .1 .0) b) (λ b zs. id⊢ 𝓤 _) ! tt (λ b zs e kn.
-      move ! (5 ∷ []) $ peeks ! N.the-row (Is N.the-row) (shows 𝓤 H A N.the-row) b (v ∷ []) (λ is. land ! (from ! (stop !)) (init ! 30 refl (EL.lawful N.the-type N′.the-laws 𝓤 H A W tt .typed b _ is .0)) $
-      returns ! (look ! 30 refl) $ move ! (down 30 13) $ frees-locals ! 13 refl $ keep ! (5 ∷ 6 ∷ 3 ∷ 2 ∷ 7 ∷ 0 ∷ []) $
-      by ! (exits fn.signature params 𝓤 H A W (fn.clauses 𝓤 H A at-mem run) y v b (tt, (zs .1 .0, (zs .1 .1 .0, (tt, tt)))) (tt, (kn .1 .0, (kn .1 .1 .0, (tt, tt)))) (factI 𝓤 _ (emp 𝓤) e)))))))))))))))))))
+        enters 𝓤 H A W fn.signature κs qs a (y .0 .4) ∵ move ! (1 ∷ []) $ twice W 0 (κs .0) u8 (a .0) $ enter ! C Λ code.function (flat (typesAt (fn.signature .params) κs) (y .0 .4)) _ $
+        alloc1 ! (λ l0. alloc1 ! (λ l1. alloc1 ! (λ l2. alloc1 ! (λ l3. alloc1 ! (λ l4. alloc1 ! (λ l5. alloc1 ! (λ l6. alloc1 ! (λ l7. alloc1 ! (λ l8. alloc1 ! (λ l9. alloc1 ! (λ l10. alloc1 ! (λ l11. alloc1 ! (λ l12. alloc0 ! $ params1 ! $
+        pass1 ! (init ! 22 refl (tt, (tt, (record { fits = room₀ .0 }, tt)))) $ pass1 ! (init ! 20 refl (tt, (tt, (record { fits = room₁ .0 }, tt)))) $ pass1 ! (init ! 18 refl (tt, (tt, (record { fits = room .0 }, tt)))) $ pass1 ! (init ! 16 refl (tt, record { fits = gt })) $ pass0 ! $
+        assigns ! (of-opd ! (load ! (from ! (fld ! refl (stop !))) (look-in ! 18 (sub ! 1 refl (whole !))))) (from ! (stop !)) (init ! 14 refl (tt, record { fits = room .0 })) $
+        assigns ! (bin ! (held ! 14 refl) (held ! 16 refl) tt) (from ! (stop !)) (init ! 12 refl (tt, tt)) $
+        first ! $ branches ! (held ! 12 refl)
+        (λ past.
+        lends-on ! 20 10 8 (refl, refl) refl refl refl (tt, tt) (refl, refl, refl) (tt, (tt, (record { fits = room₁ .0 }, tt))) $
+        move ! (28 ∷ []) $ tokens-apart W 3 κs qs $ counted W (length (a .1 .1 .0 .now)) (room .0) $ counted W (a .1 .1 .1 .0) gt $ move ! (2 ∷ 3 ∷ []) $ tokens-together W 2 κs₀ qs₀ $ move ! (0 ∷ 30 ∷ 32 ∷ 2 ∷ 1 ∷ []) $ hands 𝓤 H A W past-end.signature (past-end.spec 𝓤 H A at-mem run) passed (id⊢ 𝓤 (emp 𝓤)) $
+        calls-at ! fm Past known-p passed (and-then ! (held ! 24 refl) (and-then ! (held ! 10 refl) (and-then ! (held ! 16 refl) (and-then ! (held ! 18 refl) (no-more !))))) (λ v.
+        returned past-end.signature W (shared-slice 0 tt u8 .comes, (list-back 1 tt u64, (number .comes, (number .comes, tt)))) (past-end.clauses 𝓤 H A at-mem run) passed v (λ b zs. IdleStepSaid (a .0 .now) (a .1 .0 .now) (length (a .1 .1 .0 .now)) (a .1 .1 .1 .0) (zs .1 .0) b) (λ b zs. id⊢ 𝓤 _) ! tt (λ b zs e kn.
+        move ! (5 ∷ []) $ peeks ! N.the-row (Is N.the-row) (shows 𝓤 H A N.the-row) b (v ∷ []) (λ is. land ! (from ! (stop !)) (init ! 31 refl (EL.lawful N.the-type N′.the-laws 𝓤 H A W tt .typed b _ is .0)) $
+        returns-within ! Post refl (look ! 31 refl) $ move ! (down 31 13) $ frees-locals ! 13 refl $ move ! (8 ∷ []) $ unused W 2 (κs .1 .1 .0) T.the-row (a .1 .1 .0) $
+        move ! (6 ∷ []) $ tokens-apart W 2 κs₀ qs₀ $ move ! (0 ∷ 1 ∷ 8 ∷ []) $ tokens-together W 3 κs qs $ keep ! (0 ∷ 7 ∷ 5 ∷ 1 ∷ 8 ∷ 2 ∷ []) $
+        by ! (exits fn.signature params 𝓤 H A W (fn.clauses 𝓤 H A at-mem run) y v b (tt, (zs .1 .0, (a .1 .1 .0 .now, (tt, tt)))) (tt, (kn .1 .0, (refl, (tt, tt)))) (factI 𝓤 _ (emp 𝓤) (step-past (a .0 .now) (a .1 .0 .now) (a .1 .1 .0 .now) (a .1 .1 .1 .0) (zs .1 .0) b (leb→le (length (a .1 .1 .0 .now)) (a .1 .1 .1 .0) past) e)))))))
+        (λ inside-row.
+        let within : a .1 .1 .1 .0 < length (a .1 .1 .0 .now) = nleb→lt (length (a .1 .1 .0 .now)) (a .1 .1 .1 .0) inside-row in
+        skips ! $ goes-on ! C Λ 13 mir-of.t-4 Post $
+        lends-on ! 20 6 4 (refl, refl) refl refl refl (tt, tt) (refl, refl, refl) (tt, (tt, (record { fits = room₁ .0 }, tt))) $
+        lends-on ! 18 2 0 (refl, refl) refl refl refl (tt, tt) (refl, refl, refl) (tt, (tt, (record { fits = room .0 }, tt))) $
+        counted W (a .1 .1 .1 .0) gt $ move ! (29 ∷ 27 ∷ 30 ∷ 31 ∷ 0 ∷ []) $ hands 𝓤 H A W inside.signature (inside.spec 𝓤 H A at-mem run) y (factI 𝓤 _ (emp 𝓤) within) $
+        calls-at ! fm Inside known-i y (and-then ! (held ! 23 refl) (and-then ! (held ! 5 refl) (and-then ! (held ! 1 refl) (and-then ! (held ! 17 refl) (no-more !))))) (λ v.
+        returned inside.signature W (comesOf (fn.signature .params) params) (inside.clauses 𝓤 H A at-mem run) y v (λ b zs. StepSaid (a .0 .now) (a .1 .0 .now) (a .1 .1 .0 .now) (a .1 .1 .1 .0) (zs .1 .0) (zs .1 .1 .0) b) (λ b zs. id⊢ 𝓤 _) ! tt (λ b zs e kn.
+        move ! (5 ∷ []) $ peeks ! N.the-row (Is N.the-row) (shows 𝓤 H A N.the-row) b (v ∷ []) (λ is. land ! (from ! (stop !)) (init ! 30 refl (EL.lawful N.the-type N′.the-laws 𝓤 H A W tt .typed b _ is .0)) $
+        returns ! (look ! 30 refl) $ move ! (down 30 13) $ frees-locals ! 13 refl $ keep ! (5 ∷ 6 ∷ 3 ∷ 2 ∷ 7 ∷ 0 ∷ []) $
+        by ! (exits fn.signature params 𝓤 H A W (fn.clauses 𝓤 H A at-mem run) y v b (tt, (zs .1 .0, (zs .1 .1 .0, (tt, tt)))) (tt, (kn .1 .0, (kn .1 .1 .0, (tt, tt)))) (factI 𝓤 _ (emp 𝓤) e)))))))))))))))))))
 
 pub step-spec : {M : Type 1} → stated.statement M
 unfolding code.routine
