@@ -1,2 +1,2 @@
-mod Firsts
+pub mod Firsts
 mod Lent

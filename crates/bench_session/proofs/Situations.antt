@@ -5,8 +5,8 @@ use mathlib.Core.Bool.{Bool, true, false}
 use mathlib.Core.List.{List, [], _∷_, _++_}
 use Prim.Native.Nat.{ℕ, zero, suc, _≤_}
 use native.Mathlib.Omega.{arith}
-use borrow.Author.Tests.{leb-true, ltb-true}
-use lib.Dec.{leb, ltb}
+use borrow.Author.Tests.{ltb-true}
+use lib.Dec.{ltb}
 use lib.ListN.{length, take, length-set}
 use lib.Seq.{length-front}
 use Rattle.laws.proofs.Choice.{choice}
@@ -18,6 +18,7 @@ use Rattle.stepping.specs.Runs.{Store, serveOf, runOf}
 use Rattle.stepping.proofs.Between.{store-same}
 use Rattle.stepping.proofs.Theorem.{touches-one-cell}
 use Rattle.bench_row.specs.First.{firstCount, beginFirst, stepFirst}
+use Rattle.bench_row.proofs.Firsts.{first-few}
 use Rattle.bench_session.specs.declared.run.Bench.{Bench}
 use Rattle.bench_session.specs.declared.run.Handled.{Handled}
 use Rattle.bench_session.specs.Run.{cellCount, beginBench, stepHeld, stepBench, runsOn, finishFrom}
@@ -41,13 +42,6 @@ few-cells n = at (ltb n 9) refl
     at true e = rw e (omega (arith, ltb-true n 9 e))
     at false e = rw e (omega arith)
 
-pub few-records : (n : ℕ) → firstCount n ≤ 9
-few-records n = at (leb n 9) refl
-  where
-    at : (b : Bool) → leb n 9 ≡ b → firstCount n ≤ 9
-    at true e = rw e (leb-true n 9 e)
-    at false e = rw e (omega arith)
-
 -- ---- A step and a begin
 
 -- What they leave of what is lent.
@@ -62,7 +56,7 @@ module _ (file : List ℕ) (bench : Bench) (nine : NineHeld bench) where
   cells-room = rw (nine .cells) (few-cells (bench .tasks))
 
   row-room : firstCount (bench .tasks) ≤ length (bench .row)
-  row-room = rw (nine .row) (few-records (bench .tasks))
+  row-room = rw (nine .row) (first-few (bench .tasks) _ refl)
 
   module _ (t : ℕ) where
     step-cells : length (stepOut file bench t .cells) ≡ length (lent bench .cells)

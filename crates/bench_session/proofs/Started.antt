@@ -16,11 +16,12 @@ use Rattle.stepping.specs.Call.{startOf}
 use Rattle.stepping.specs.Opening.{Opening, startStore}
 use Rattle.stepping.proofs.Theorem.{start-opens}
 use Rattle.bench_row.specs.First.{firstCount, startFirst}
+use Rattle.bench_row.proofs.Firsts.{first-few}
 use Rattle.bench_session.specs.declared.run.Bench.{Bench}
 use Rattle.bench_session.specs.Run.{cellCount, startHeld, startBench, opened}
 use Rattle.bench_session.proofs.Openings.{start-sizes}
 use Rattle.stepping.proofs.Between.{store-same}
-use Rattle.bench_session.proofs.Situations.{Consistent, during, few-cells, few-records}
+use Rattle.bench_session.proofs.Situations.{Consistent, during, few-cells}
 
 -- Fewer than nine records are lent as they are counted.
 counted : (k : ℕ) → firstCount k ≤ 8 → firstCount k ≡ k
@@ -48,7 +49,7 @@ module _ (file : List ℕ) (bytes : Bytes file) (bench : Bench) (c : Consistent 
           let s = start-sizes file lentCells lentRow bytes e in
           let out = startOf file lentCells lentRow in
           let cells-room : cellCount k ≤ length (bench .cells) = rw (c .nine .cells) (few-cells k) in
-          let row-room : firstCount k ≤ length (bench .row) = rw (c .nine .row) (few-records k) in
+          let row-room : firstCount k ≤ length (bench .row) = rw (c .nine .row) (first-few k _ refl) in
           let long : length lentRow ≡ firstCount k = length-take-le (firstCount k) (bench .row) row-room in
           let n : length lentRow ≡ k = long ∙ counted k (omega (arith, s .most, long)) in
           record {

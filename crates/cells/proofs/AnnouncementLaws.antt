@@ -7,7 +7,7 @@ use borrow.Author.Tests.{eqb-true}
 use lib.Dec.{eqb, ltb}
 use lib.ListN.{getD}
 use Rattle.cells.specs.Field.{unpack, Fit}
-use Rattle.cells.specs.Form.{payloadInForm, announcementFieldsInForm, announcementInForm, announcementInRange}
+use Rattle.cells.specs.Form.{payloadInForm, announcementFieldsInForm, announcementInForm}
 use Rattle.cells.specs.Layout.{marksWidth, kindWidth, gapWidth, payloadWidth, marks, value, announcementWidths, announcementValues, announcementAt, announcementFrom, announcementWord, announcementOf, kindIn}
 use Rattle.cells.specs.declared.announcement.Announcement.{Announcement}
 use Rattle.cells.specs.declared.announcement.Announcement.the-variants.{Empty, Operation, Response}
@@ -27,6 +27,12 @@ announcement-codec = record { content-of = content; marks-of = lowest }
     lowest Empty m = refl
     lowest (Operation o) m = refl
     lowest (Response r) m = refl
+
+-- What an announcement in form holds: an operation below m, any response, or nothing.
+abbrev pub announcementInRange : ℕ → Announcement → Bool
+announcementInRange m Empty = true
+announcementInRange m (Operation o) = ltb o m
+announcementInRange m (Response r) = true
 
 -- The fields of an announcement pass the test exactly if it is in range.
 announcement-ranged : (o : ℕ) (x : Announcement) (m : ℕ) → announcementFieldsInForm o (announcementValues x m) ≡ announcementInRange o x

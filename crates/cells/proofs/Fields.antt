@@ -6,7 +6,7 @@ use native.Mathlib.Nat.{add-mul-mod-self-left, mod-eq-of-lt, mod-add-div, add-mu
 use native.Mathlib.Omega.{arith}
 use lib.Arith.{digits-lt}
 use lib.Pow.{pow-pos, pow-add}
-use Rattle.cells.specs.Field.{pack, unpack, unpackAt, total, Fit}
+use Rattle.cells.specs.Field.{pack, unpack, total, Fit}
 
 -- The lowest field and the rest of a word that is made of both.
 module _ (w v r : ℕ) (h : v < 2 ^ w) where
@@ -52,6 +52,11 @@ pack-below (w ∷ ws) (v ∷ vs) f =
 -- Different values give different words.
 pub pack-injective : (ws us vs : List ℕ) → Fit ws us → Fit ws vs → pack ws us ≡ pack ws vs → us ≡ vs
 pack-injective ws us vs f g e = sym (unpack-pack ws us f) ∙ ap (unpack ws) e ∙ unpack-pack ws vs g
+
+-- The values that fields hold in a word, read by place values: the first field starts at place p.
+unfoldable pub unpackAt : ℕ → List ℕ → ℕ → List ℕ
+unpackAt p [] x = []
+unpackAt p (w ∷ ws) x = x / p % 2 ^ w ∷ unpackAt (p * 2 ^ w) ws x
 
 -- Fields may be read one after the other or each by its place value.
 unpack-from : (p : ℕ) (ws : List ℕ) (x : ℕ) → unpack ws (x / p) ≡ unpackAt p ws x

@@ -9,7 +9,7 @@ use borrow.Author.Tests.{eqb-true, eqb-false, ne-eqb}
 use lib.Dec.{eqb, ltb, leb}
 use lib.ListN.{getD}
 use Rattle.cells.specs.Field.{unpack, Fit}
-use Rattle.cells.specs.Form.{holderBound, headFieldsInForm, headInForm, headInRange}
+use Rattle.cells.specs.Form.{holderBound, headFieldsInForm, headInForm}
 use Rattle.cells.specs.Layout.{marksWidth, stateWidth, responseWidth, holderWidth, marks, value, headWidths, headValues, headAt, headFrom, headWord, headOf}
 use Rattle.cells.specs.declared.head.Head.{Head}
 use Rattle.cells.specs.declared.head.Head.the-variants.{Free, Held}
@@ -26,6 +26,11 @@ head-codec = record { content-of = content; marks-of = lowest }
     lowest : (x : Head) (m : ℕ) → getD (headValues x m) 0 0 ≡ m
     lowest (Free q) m = refl
     lowest (Held q j r) m = refl
+
+-- What a head in form holds: a state below s, and a holder within its bound.
+abbrev pub headInRange : ℕ → ℕ → Head → Bool
+headInRange s n (Free q) = ltb q s
+headInRange s n (Held q j r) = ltb q s && ltb j (holderBound n)
 
 -- The fields of a head pass the test exactly if it is in range.
 head-ranged : (s n : ℕ) (x : Head) (m : ℕ) → headFieldsInForm s n (headValues x m) ≡ headInRange s n x

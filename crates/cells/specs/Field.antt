@@ -24,8 +24,3 @@ Fit [] [] = Unit {0}
 Fit [] (v ∷ vs) = ⊥
 Fit (w ∷ ws) [] = ⊥
 Fit (w ∷ ws) (v ∷ vs) = (v < 2 ^ w) × Fit ws vs
-
--- The same values, read by place values: the first field starts at place p.
-unfoldable pub unpackAt : ℕ → List ℕ → ℕ → List ℕ
-unpackAt p [] x = []
-unpackAt p (w ∷ ws) x = x / p % 2 ^ w ∷ unpackAt (p * 2 ^ w) ws x

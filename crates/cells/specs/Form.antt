@@ -6,10 +6,6 @@ use lib.Dec.{eqb, ltb, leb}
 use lib.ListN.{getD}
 use Rattle.cells.specs.Field.{unpack, total}
 use Rattle.cells.specs.Layout.{headWidths, announcementWidths, marks}
-use Rattle.cells.specs.declared.head.Head.{Head}
-use Rattle.cells.specs.declared.head.Head.the-variants.{Free, Held}
-use Rattle.cells.specs.declared.announcement.Announcement.{Announcement}
-use Rattle.cells.specs.declared.announcement.Announcement.the-variants.{Empty, Operation, Response}
 
 -- The largest number in a holder field, with n tasks.
 abbrev pub holderBound : ℕ → ℕ
@@ -32,11 +28,6 @@ headFieldsInForm s n vs =
 unfoldable pub headInForm : ℕ → ℕ → ℕ → Bool
 headInForm s n w = inForm headWidths (headFieldsInForm s n) n w
 
--- What a head in form holds: a state below s, and a holder within its bound.
-abbrev pub headInRange : ℕ → ℕ → Head → Bool
-headInRange s n (Free q) = ltb q s
-headInRange s n (Held q j r) = ltb q s && ltb j (holderBound n)
-
 -- Kind 0 has payload 0, kind 1 an operation below m, kind 2 any response, and there is no other kind.
 unfoldable pub payloadInForm : ℕ → ℕ → ℕ → Bool
 payloadInForm m k p = cond (eqb k 0) (eqb p 0) (cond (eqb k 1) (ltb p m) (eqb k 2))
@@ -48,12 +39,6 @@ announcementFieldsInForm m vs = eqb (getD vs 2 0) 0 && payloadInForm m (getD vs 
 -- An announcement in form.
 unfoldable pub announcementInForm : ℕ → ℕ → ℕ → Bool
 announcementInForm m n w = inForm announcementWidths (announcementFieldsInForm m) n w
-
--- What an announcement in form holds: an operation below m, any response, or nothing.
-abbrev pub announcementInRange : ℕ → Announcement → Bool
-announcementInRange m Empty = true
-announcementInRange m (Operation o) = ltb o m
-announcementInRange m (Response r) = true
 
 -- Every word of a list is in form as an announcement.
 unfoldable pub announcementsInForm : ℕ → ℕ → List ℕ → Bool

@@ -1,6 +1,6 @@
 -- Laws of a test at every number below a bound, and at some number below it.
 use mathlib.Core.Path.{_≡_, refl, sym, ap, _∙_}
-use mathlib.Core.Bool.{Bool, true, false, _||_, and-eq-true-iff, false≢true, or-true}
+use mathlib.Core.Bool.{Bool, true, false, _||_, and-eq-true-iff, or-true}
 use mathlib.Core.Logic.{_⊎_, ⊎-elim}
 use Prim.Native.Nat.{ℕ, zero, suc, _<_}
 use native.Mathlib.Nat.{not-suc-le-zero, eq-or-lt-of-le, le-of-suc-le-suc}

@@ -12,10 +12,6 @@ pub record Operation : Type 0 where
   pub task : ℕ
   pub operation : ℕ
 
--- One order extends another at its end.
-abbrev pub Extends : List Operation → List Operation → Type 0
-Extends xs zs = (ys : List Operation) × (zs ≡ xs ++ ys)
-
 -- A task's page: idle, waiting with an operation, or done with a response; the last two with a count of steps.
 pub data Page : Type 0 where
   Idle : Page

@@ -28,9 +28,13 @@ use Rattle.stepping.specs.declared.answer.Begin.{Begin}
 use Rattle.records.specs.Record.{idleTask, readRecord}
 use Rattle.transition.specs.Transition.{planOf, usedInRange}
 use Rattle.stepping.specs.Step.{touched, cellInForm, answerOf, TaskOutcome, ledTo}
-use Rattle.stepping.specs.Call.{withRow, admitOf, StartOutcome, refuseStart, withCells, filled, startOf, admitStartOf, refuseBegin, beginFrom, beginIn, beginTask, refuseStep, touch, stepFrom, stepIn, stepTask, taskAt, beginOf, stepOf}
+use Rattle.stepping.specs.Call.{withRow, admitOf, StartOutcome, withCells, filled, startOf, admitStartOf, refuseBegin, beginFrom, beginIn, beginTask, refuseStep, touch, stepFrom, stepIn, stepTask, taskAt, beginOf, stepOf}
 
 -- ---- Start
+
+-- What a refused start leaves and answers.
+abbrev pub refuseStart : List ℕ → List Task → Refusal → StartOutcome
+refuseStart cells row c = record { cells = cells; row = row; answer = start.Refused c }
 
 module _ (cells : List ℕ) (row : List Task) where
   record StartKept (out : StartOutcome) : Type 0 where

@@ -83,9 +83,6 @@ pub record StartOutcome : Type 0 where
   pub row : List Task
   pub answer : StartAnswer
 
-abbrev pub refuseStart : List ℕ → List Task → Refusal → StartOutcome
-refuseStart cells row c = record { cells = cells; row = row; answer = start.Refused c }
-
 -- Its tests, for k cells and n records: whether it is granted and the start state, or the first cause.
 abbrev pub notGranted : Refusal → Start
 notGranted c = record { granted = false; state = 0; answer = start.Refused c }

@@ -11,12 +11,12 @@ use lib.Dec.{eqb, ltb}
 use lib.ListN.{getD}
 use Rattle.laws.specs.Decision.{decided}
 use Rattle.cells.specs.Field.{pack, Fit}
-use Rattle.cells.specs.Form.{headInForm, headInRange, announcementInForm, announcementInRange}
+use Rattle.cells.specs.Form.{headInForm, announcementInForm}
 use Rattle.cells.specs.Layout.{marksWidth, marks, value, hasMark, addMark, removeMark, headWidths, headValues, headWord, headOf, announcementWidths, announcementValues, announcementWord, announcementOf, kindIn}
 use Rattle.cells.specs.Marks.{has, add, remove}
 use Rattle.cells.proofs.MarkLaws.{SetsBit, adds, removes, set-below, has-low}
-use Rattle.cells.proofs.HeadLaws.{head-decode, head-marks, head-injective, head-form}
-use Rattle.cells.proofs.AnnouncementLaws.{announcement-decode, announcement-kind, announcement-marks, announcement-injective, announcement-form}
+use Rattle.cells.proofs.HeadLaws.{headInRange, head-decode, head-marks, head-injective, head-form}
+use Rattle.cells.proofs.AnnouncementLaws.{announcementInRange, announcement-decode, announcement-kind, announcement-marks, announcement-injective, announcement-form}
 use Rattle.cells.proofs.WordMarks.{has-mark, add-mark, remove-mark, set-value, set-marks}
 use Rattle.table.specs.declared.Shape.{Shape}
 use Rattle.table.proofs.Fitting.{Fitting}

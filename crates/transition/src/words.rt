@@ -23,7 +23,7 @@ pub fn state_in(head: Head) -> u16
 }
 
 // The response in a head, 0 without a holder.
-pub fn response_in(head: Head) -> u16
+fn response_in(head: Head) -> u16
     ensures { λ r. ⌜ r ≡ responseIn head ⌝ }
 {
     match head {

@@ -11,12 +11,12 @@ use Rattle.machine.specs.Run.{Config, start, serve, run, history}
 use Rattle.machine.specs.Calls.{Call, Event}
 use Rattle.machine.specs.Invariant.{Safe}
 use Rattle.machine.specs.Form.{Formed}
-use Rattle.machine.specs.Book.{Book, blank, Kept, rest, then, Extends}
+use Rattle.machine.specs.Book.{Book, blank, Kept, rest, then}
 use Rattle.machine.specs.History.{Linearizes, reached}
 use Rattle.machine.specs.Keeping.{keep, bookAfter, bookOf}
 use Rattle.machine.proofs.Invariant.Safety.{safe-start, safe-serve}
 use Rattle.machine.proofs.Invariant.Ranges.{formed-start, formed-serve}
-use Rattle.machine.proofs.Book.Order.{order-grows}
+use Rattle.machine.proofs.Book.Order.{Extends, order-grows}
 use Rattle.machine.proofs.Book.Linearization.{kept-agrees, linearizable}
 use Rattle.machine.proofs.Book.Related.{Related, related-start}
 use Rattle.machine.proofs.Book.Booked.{legal-serve, related-serve}

@@ -4,7 +4,11 @@ use mathlib.Core.List.{List, [], _∷_, _++_, append-nil, append-assoc}
 use Prim.Native.Nat.{ℕ}
 use Rattle.machine.specs.Object.{Object}
 use Rattle.machine.specs.Calls.{Call, Answer, Event}
-use Rattle.machine.specs.Book.{Operation, Extends, Book, Entering, none, enter, Booking, begun, begin-task, begin-operation, begin-pending, running-waiting, running-done, ended, step-task, step-idle, Kept, rest, then}
+use Rattle.machine.specs.Book.{Operation, Book, Entering, none, enter, Booking, begun, begin-task, begin-operation, begin-pending, running-waiting, running-done, ended, step-task, step-idle, Kept, rest, then}
+
+-- One order extends another at its end.
+abbrev pub Extends : List Operation → List Operation → Type 0
+Extends xs zs = (ys : List Operation) × (zs ≡ xs ++ ys)
 
 extends-trans : (xs : List Operation) {ys zs : List Operation} → Extends xs ys → Extends ys zs → Extends xs zs
 extends-trans xs f g = (f .0 ++ g .0, g .1 ∙ ap (λ l. l ++ g .0) (f .1) ∙ append-assoc xs (f .0) (g .0))

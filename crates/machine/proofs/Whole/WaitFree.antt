@@ -12,8 +12,8 @@ use Rattle.machine.specs.Object.{Object}
 use Rattle.machine.specs.Lawful.{Opens}
 use Rattle.machine.specs.Machine.{Idle, Task, Next, Go, Turn, End, ends, advance}
 use Rattle.machine.specs.Kind.{Kind, Off, kind, off}
-use Rattle.machine.specs.Run.{Config, Served, start, answerOf, begun, serve, run}
-use Rattle.machine.specs.Calls.{Call, Ended}
+use Rattle.machine.specs.Run.{Config, Served, start, begun, serve, run}
+use Rattle.machine.specs.Calls.{Call}
 use Rattle.machine.specs.Invariant.{Safe}
 use Rattle.machine.specs.Form.{Formed}
 use Rattle.machine.specs.Potential.{bound, potential, Bounded}
@@ -93,21 +93,6 @@ module _ (b : Object) (n : ℕ) {c : Config} (safe : Safe c) (formed : Formed b 
     bounded-serving (step-task h) = bounded
     bounded-serving (step-idle h e) = bounded
 
-    counted-within : (k : ℕ) (y : Next) {r s : ℕ} → k < bound n → answerOf k y ≡ Ended r s → s ≤ bound n
-    counted-within k (Go f) h e = never cc
-    counted-within k (Turn f) h e = never cc
-    counted-within k (End v) {s = s} h e = let z : suc k ≡ s = cc in omega arith
-
-    -- The count of an *ended* is at most the bound.
-    pub ended-within : {x : Call} {z : Served} {r s : ℕ} → Serving b n c x z → z .answer ≡ Ended r s → s ≤ bound n
-    ended-within (begins h k e) f = never cc
-    ended-within (begin-task h) f = never cc
-    ended-within (begin-operation h k) f = never cc
-    ended-within (begin-pending h k e) f = never cc
-    ended-within (moves {i = i} {y = y} h d v) f = counted-within (c .task i .steps) y (pending-below i h (pending d)) f
-    ended-within (step-task h) f = never cc
-    ended-within (step-idle h e) f = never cc
-
 -- ---- Lists of calls
 
 module _ (b : Object) (n : ℕ) where
@@ -120,9 +105,6 @@ module _ (b : Object) (n : ℕ) where
     pub steps-bounded : Bounded n (run b n xs (start q))
     steps-bounded = bounded-from xs (start q) (safe-start q) (formed-start b n good) (λ t h. omega arith)
 
-    -- So the count of a pending operation is below the bound, and no later *ended* has a count above it.
+    -- So the count of a pending operation is below the bound.
     pub pending-steps : (t : ℕ) → t < n → (kind (run b n xs (start q) .task t .phase) ≡ Off → ⊥) → run b n xs (start q) .task t .steps < bound n
     pending-steps = pending-below b n (safe-run b n xs q) (formed-run b n xs good) steps-bounded
-
-    pub ended-steps : (x : Call) {r s : ℕ} → serve b n x (run b n xs (start q)) .answer ≡ Ended r s → s ≤ bound n
-    ended-steps x = ended-within b n (safe-run b n xs q) (formed-run b n xs good) steps-bounded (serving b n (run b n xs (start q)) x)

@@ -1,8 +1,7 @@
 use borrow.Author.Tests.{ne-eqb}
 use borrow.Author.Needs.{needs}
-use Rattle.cells.specs.Field.{unpackAt}
 use Rattle.cells.specs.Layout.{announcementOf, announcementWidths}
-use Rattle.cells.proofs.Fields.{unpack-places}
+use Rattle.cells.proofs.Fields.{unpackAt, unpack-places}
 use Rattle.cells.proofs.announcement.read_announcement.Statement.{statement}
 use Rattle.cells.proofs.announcement.read_announcement.Tie as tie
 

@@ -1,10 +1,10 @@
 use mathlib.Core.Path.{_≡_, sym, _∙_}
 use borrow.Author.Needs.{needs}
 use borrow.Author.Tests.{lt-ltb, le-ltb, eq-eqb, ne-eqb, not-true, not-false}
-use Rattle.cells.specs.Field.{total, unpackAt}
+use Rattle.cells.specs.Field.{total}
 use Rattle.cells.specs.Form.{inForm, announcementInForm, announcementFieldsInForm, payloadInForm}
 use Rattle.cells.specs.Layout.{announcementWidths}
-use Rattle.cells.proofs.Fields.{unpack-places}
+use Rattle.cells.proofs.Fields.{unpackAt, unpack-places}
 use Rattle.cells.proofs.form.announcement_in_form.Statement.{statement}
 use Rattle.cells.proofs.form.announcement_in_form.Tie as tie
 

@@ -3,10 +3,10 @@ use native.Mathlib.Omega.{arith}
 use borrow.Author.Needs.{needs}
 use borrow.Author.Tests.{lt-ltb, le-ltb, le-leb, lt-leb, eq-eqb, ne-eqb, not-true, not-false}
 use lib.ListN.{getD}
-use Rattle.cells.specs.Field.{total, unpackAt}
+use Rattle.cells.specs.Field.{total}
 use Rattle.cells.specs.Form.{holderBound, inForm, headInForm, headFieldsInForm}
 use Rattle.cells.specs.Layout.{headWidths}
-use Rattle.cells.proofs.Fields.{unpack-places}
+use Rattle.cells.proofs.Fields.{unpackAt, unpack-places}
 use Rattle.cells.proofs.form.head_in_form.Statement.{statement}
 use Rattle.cells.proofs.form.head_in_form.Tie as tie
 

@@ -1,8 +1,7 @@
 use borrow.Author.Tests.{ne-eqb}
 use borrow.Author.Needs.{needs}
-use Rattle.cells.specs.Field.{unpackAt}
 use Rattle.cells.specs.Layout.{headOf, headWidths}
-use Rattle.cells.proofs.Fields.{unpack-places}
+use Rattle.cells.proofs.Fields.{unpackAt, unpack-places}
 use Rattle.cells.proofs.head.read_head.Statement.{statement}
 use Rattle.cells.proofs.head.read_head.Tie as tie
 
