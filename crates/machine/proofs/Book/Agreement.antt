@@ -45,7 +45,7 @@ Fits b q es p order t (Waiting x s) = Awaits es p order t x
 Fits b q es p order t (Done r s) = (y : Operation) → y .task ≡ t → Open es p y → Answered b q order y r
 
 -- The book agrees with the events before place p.
-pub record Agrees (b : Object) (q : ℕ) (es : List Event) (p : ℕ) (k : Book) : Type 0 where
+pub record AgreesWithBook (b : Object) (q : ℕ) (es : List Event) (p : ℕ) (k : Book) : Type 0 where
   pub state : k .state ≡ reached b q (k .order)
   pub only : (i : ℕ) (x : Operation) → At (k .order) i x → Begins es x × (x .place < p)
   pub once : (i j : ℕ) (x y : Operation) → At (k .order) i x → At (k .order) j y → x .place ≡ y .place → i ≡ j
@@ -81,7 +81,7 @@ closes (Refused c) = false
 
 module _ (b : Object) (q : ℕ) (es : List Event) where
   -- The blank book agrees with no events.
-  pub blank-agrees : Agrees b q es 0 (blank q)
+  pub blank-agrees : AgreesWithBook b q es 0 (blank q)
   blank-agrees = record {
     state = refl;
     only = λ i x a. absurd (at-none a);
@@ -118,7 +118,7 @@ module _ (b : Object) (q : ℕ) (es : List Event) where
     fits-entered s y e o = rw (w .sole y e o) (length order, at-next order x [], replayed-next b x q order)
 
   -- The entry of a waiting task keeps the agreement.
-  entry : (p : ℕ) (k : Book) (t : ℕ) (x : Operation) (s : ℕ) → k .page t ≡ Waiting x s → Agrees b q es p k → Agrees b q es p (entered b t x s k)
+  entry : (p : ℕ) (k : Book) (t : ℕ) (x : Operation) (s : ℕ) → k .page t ≡ Waiting x s → AgreesWithBook b q es p k → AgreesWithBook b q es p (entered b t x s k)
   entry p k t x s e g =
       record {
         state = ap (λ z. b .next z (x .operation)) (g .state) ∙ sym (reached-next b x q (k .order));
@@ -150,7 +150,7 @@ module _ (b : Object) (q : ℕ) (es : List Event) where
       real-time y z c r i j u v l m (inl a) (inr d) = omega (arith, at-bound a, d .0)
       real-time y z c r i j u v l m (inr a) d = let f = g .every y c r u v l in absurd (w .fresh (f .0) y (f .1) (ap (λ o. o .place) (a .1)))
 
-  pub entries : (p : ℕ) {k k′ : Book} → Entering b k k′ → Agrees b q es p k → Agrees b q es p k′
+  pub entries : (p : ℕ) {k k′ : Book} → Entering b k k′ → AgreesWithBook b q es p k → AgreesWithBook b q es p k′
   entries p none g = g
   entries p (enter {k = k} t x s e f) g = entries p f (entry p k t x s e g)
 
@@ -172,7 +172,7 @@ module _ (b : Object) (q : ℕ) (es : List Event) where
         unended = λ i r s l m a. o .unended i r s l (omega (arith, m)) a;
       }
 
-  module _ (p : ℕ) (k : Book) (g : Agrees b q es p k) where
+  module _ (p : ℕ) (k : Book) (g : AgreesWithBook b q es p k) where
     -- The page of a task stays right at an event at which no operation of the task begins.
     fits-still : (t : ℕ) → ((y : Operation) → y .task ≡ t → Begins es y → y .place ≢ p) → (page : Page) → Fits b q es p (k .order) t page → Fits b q es (suc p) (k .order) t page
     fits-still t n page f = go page f
@@ -188,7 +188,7 @@ module _ (b : Object) (q : ℕ) (es : List Event) where
     -- The book with other pages agrees with one event more, if the pages are right, and if what ends there is answered.
     passed : (page : ℕ → Page) → ((t : ℕ) → Fits b q es (suc p) (k .order) t (page t))
         → ((x : Operation) (r : ℕ) → Begins es x → Ends es x p r → Answered b q (k .order) x r)
-        → Agrees b q es (suc p) (record { state = k .state; order = k .order; page = page })
+        → AgreesWithBook b q es (suc p) (record { state = k .state; order = k .order; page = page })
     passed page f h =
         record {
           state = g .state;
@@ -205,7 +205,7 @@ module _ (b : Object) (q : ℕ) (es : List Event) where
 
     -- An event at which no operation begins or ends.
     quiet : {e : Event} → At es p e → opens (e .answer) ≡ false → closes (e .answer) ≡ false → (page : ℕ → Page)
-        → ((t : ℕ) → Fits b q es p (k .order) t (page t)) → Agrees b q es (suc p) (record { state = k .state; order = k .order; page = page })
+        → ((t : ℕ) → Fits b q es p (k .order) t (page t)) → AgreesWithBook b q es (suc p) (record { state = k .state; order = k .order; page = page })
     quiet v m n page f = passed page (λ t. fits-still t (λ y _ u. unbegun p v m y u) (page t) (f t)) (λ x r _ u. absurd (unended p v n x r u))
 
     -- One page with another that says the same.
@@ -213,7 +213,7 @@ module _ (b : Object) (q : ℕ) (es : List Event) where
     fits-turned t page f = update-all (k .page) t page (Fits b q es p (k .order)) f (λ t′ _. g .pages t′)
 
     -- The begin of an operation of an idle task.
-    opening : (t o : ℕ) → At es p (record { call = Begin t o; answer = Begun }) → k .page t ≡ Idle → Agrees b q es (suc p) (turned t (Waiting (record { place = p; task = t; operation = o }) 0) k)
+    opening : (t o : ℕ) → At es p (record { call = Begin t o; answer = Begun }) → k .page t ≡ Idle → AgreesWithBook b q es (suc p) (turned t (Waiting (record { place = p; task = t; operation = o }) 0) k)
     opening t o v e = passed (update (k .page) t (Waiting x 0)) (update-all (k .page) t (Waiting x 0) (Fits b q es (suc p) (k .order)) awaits others) (λ y r _ u. absurd (unended p v refl y r u))
       where
         x : Operation
@@ -239,7 +239,7 @@ module _ (b : Object) (q : ℕ) (es : List Event) where
         others t′ n = fits-still t′ (λ y d u l. n (sym (ap (λ z. z .task) (same-place es y x u v l)) ∙ d)) (k .page t′) (g .pages t′)
 
     -- The end of an operation of a task that is done.
-    closing : (t r s steps : ℕ) → At es p (record { call = Step t; answer = Ended r steps }) → k .page t ≡ Done r s → Agrees b q es (suc p) (turned t Idle k)
+    closing : (t r s steps : ℕ) → At es p (record { call = Step t; answer = Ended r steps }) → k .page t ≡ Done r s → AgreesWithBook b q es (suc p) (turned t Idle k)
     closing t r s steps v e = passed (update (k .page) t Idle) (update-all (k .page) t Idle (Fits b q es (suc p) (k .order)) idle others) answered
       where
         began : (y : Operation) → Begins es y → y .place ≢ p
@@ -270,7 +270,7 @@ module _ (b : Object) (q : ℕ) (es : List Event) where
             response = cc answers
 
     -- The booking of an event keeps the agreement.
-    pub booked : {n : ℕ} {c : Call} {a : Answer} {k′ : Book} → Booking b n p k c a k′ → At es p (record { call = c; answer = a }) → Agrees b q es (suc p) k′
+    pub booked : {n : ℕ} {c : Call} {a : Answer} {k′ : Book} → Booking b n p k c a k′ → At es p (record { call = c; answer = a }) → AgreesWithBook b q es (suc p) k′
     booked (begun {t = t} {o = o} _ _ e) v = opening t o v e
     booked (begin-task _) v = quiet v refl refl (k .page) (g .pages)
     booked (begin-operation _ _) v = quiet v refl refl (k .page) (g .pages)

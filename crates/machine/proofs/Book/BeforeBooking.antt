@@ -30,7 +30,7 @@ pub record Runs (c : Config) (m : Memory) (i : ℕ) (k : Book) (f : Phase) : Typ
   pub stands : standsAt m i (kind f) ≡ standsAt m i (kind (c .task i .phase))
 
 -- The step of task i ends with the response v: the task has been entered with it.
-pub record Ends (c : Config) (m : Memory) (i : ℕ) (k : Book) (v : ℕ) : Type 0 where
+pub record EndsBooked (c : Config) (m : Memory) (i : ℕ) (k : Book) (v : ℕ) : Type 0 where
   pub state : k .state ≡ stateOf (headValue m)
   pub others : (t : ℕ) → i ≢ t → Paged m t (c .task t) (k .page t)
   pub page : k .page i ≡ Done v (c .task i .steps)
@@ -38,7 +38,7 @@ pub record Ends (c : Config) (m : Memory) (i : ℕ) (k : Book) (v : ℕ) : Type 
 abbrev pub BeforeBooking : Config → Memory → ℕ → Book → Next → Type 0
 BeforeBooking c m i k (Go f) = Runs c m i k f
 BeforeBooking c m i k (Turn f) = Runs c m i k f
-BeforeBooking c m i k (End v) = Ends c m i k v
+BeforeBooking c m i k (End v) = EndsBooked c m i k v
 
 -- An effect that is nobody's matter leaves the head's state.
 state-aside : (m : Memory) (i : ℕ) (e : Effect) → ((s t : ℕ) → Aside s t e) → stateOf (headValue (effect i e m)) ≡ stateOf (headValue m)
@@ -69,7 +69,7 @@ module _ (b : Object) (c : Config) (k : Book) (i : ℕ) where
   module _ (rel : Related c k) where
     -- A reader takes effect in the very step that ends it. It keeps the state.
     before-booking-reads : c .task i .phase ≡ ReadOnly → Opens b (stateOf (headValue (c .memory))) → c .task i .operation < b .operations → b .changing (c .task i .operation) ≡ false
-        → Ends c (c .memory) i (enter b i k) (b .outcome (stateOf (headValue (c .memory))) (c .task i .operation))
+        → EndsBooked c (c .memory) i (enter b i k) (b .outcome (stateOf (headValue (c .memory))) (c .task i .operation))
     before-booking-reads z g h d = record {
       state = done .state ∙ ap (λ q. b .next q o) (rel .state) ∙ g .lawful .still _ o (g .good) h d;
       others = λ t d. rw (enter-other b i t k d) (rel .page t);
