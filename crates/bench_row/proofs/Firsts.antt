@@ -2,16 +2,20 @@
 use mathlib.Core.Path.{_≡_, refl, ap, sym}
 use mathlib.Core.Bool.{Bool, true, false}
 use mathlib.Core.List.{List, _++_}
-use Prim.Native.Nat.{ℕ, _≤_}
+use Prim.Native.Nat.{ℕ, _<_, _≤_}
 use native.Mathlib.Omega.{arith}
 use borrow.Author.Tests.{leb-true}
 use lib.Dec.{leb}
-use lib.ListN.{take, drop}
+use lib.ListN.{length, take, drop}
+use Rattle.cells.proofs.Ceilings.{no-ceiling}
+use Rattle.table.specs.declared.Checked.{Checked}
+use Rattle.table.specs.declared.Checked.the-variants as table
+use Rattle.table.specs.Check.{checkOf}
 use Rattle.records.specs.declared.record.Task.{Task}
 use Rattle.stepping.specs.declared.answer.StepAnswer.{StepAnswer}
 use Rattle.stepping.specs.declared.answer.StartAnswer.{StartAnswer}
 use Rattle.stepping.specs.declared.answer.BeginAnswer.{BeginAnswer}
-use Rattle.stepping.specs.Call.{StartOutcome, BeginOutcome, StepOutcome}
+use Rattle.stepping.specs.Call.{withRow, StartOutcome, withCells, admitStartOf, startOf, BeginOutcome, StepOutcome}
 use Rattle.bench_row.specs.First.{firstCount, startFirst, beginFirst, stepFirst}
 use Rattle.drive.proofs.Calls.{BeginSaid, StepSaid}
 use Rattle.drive.proofs.Starts.{StartSaid}
@@ -25,6 +29,15 @@ first-few n m e = rw e (at (leb n 9) refl)
     at : (b : Bool) → leb n 9 ≡ b → firstCount n ≤ 9
     at true e = rw e (leb-true n 9 e)
     at false e = rw e (omega arith)
+
+-- A row of more than eight records is refused by start as every other one is, so nine records stand for any longer row.
+pub long-start : (file cs : List ℕ) (ys zs : List Task) → 8 < length ys → 8 < length zs → startOf file cs ys .answer ≡ startOf file cs zs .answer
+unfolding startOf admitStartOf
+long-start file cs ys zs h g = at (checkOf file)
+  where
+    at : (checked : Checked) → withCells (length cs) (length ys) (withRow (length ys) checked) .answer ≡ withCells (length cs) (length zs) (withRow (length zs) checked) .answer
+    at (table.Accepted shape) = rw (no-ceiling (length ys) (λ _ l. omega arith), no-ceiling (length zs) (λ _ l. omega arith)) refl
+    at (table.Refused c) = refl
 
 -- ---- The calls
 
