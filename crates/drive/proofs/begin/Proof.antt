@@ -1,10 +1,8 @@
 -- `drive::begin` meets its contract, by a walk of its code: past the row's end the row stays as it was; else all is passed on to `begin_in`.
-use Rattle.walks.proofs.Kit.{_≡_, refl, _<_, _^_, [], _∷_, length, URA, w64, Val, vint, SProp, ent, emp, via, fst∗, id⊢, Memory, Routine, Heap, Calls, Loops, WpFn, Atoms, Fun, factI, Lfts, Shares, givenOf, tables, Given, _$_, _∵_, !, by, move, keep, look, init, stop, fld, from, load, bin, of-opd, and-then, no-more, assigns, land, first, branches, skips, returns, returns-within, enter, alloc1, alloc0, params1, pass1, pass0, whole, sub, look-in, FmC, flat, Is, shows, mem, u8, Room, typesAt, peeks, Args, onEntry, tripleOf, Contract, Triple, calls-at, cited}
+use Rattle.walks.proofs.Kit.{_≡_, refl, _<_, _^_, [], _∷_, length, URA, w64, Val, vint, SProp, ent, emp, via, fst∗, id⊢, Memory, Routine, Heap, Calls, Loops, WpFn, Atoms, Fun, factI, Lfts, Shares, givenOf, tables, Given, _$_, _∵_, !, by, move, keep, look, init, stop, fld, from, load, bin, of-opd, and-then, no-more, assigns, land, first, branches, skips, returns, returns-within, enter, alloc1, alloc0, params1, pass1, pass0, whole, sub, look-in, FmC, flat, Is, shows, mem, u8, Room, typesAt, peeks, Args, onEntry, tripleOf, Contract, Triple, calls-at, cited, leb→le, nleb→lt, enum-lawful}
 use Rattle.walks.proofs.Parameters.{Handleds, shared-slice, given-slice, number, comesOf, passedAs}
 use Rattle.walks.proofs.Function.{enters, hands, twice, counted, tokens-apart, tokens-together, returned, exits, Passed, PostOf, meets-by-walk, unused}
 use Rattle.walks.proofs.Locals.{held, lends-on, down, frees-locals, goes-on}
-use lib.Dec.{leb→le, nleb→lt}
-use denote.Enum.Laws as EL
 use Rattle.records.proofs.record.Task as T
 use Rattle.stepping.proofs.answer.BeginAnswer as N
 use Rattle.stepping.proofs.answer.BeginAnswer.Laws as N′
@@ -56,28 +54,40 @@ module _ {M : Type 1} (𝓤 : URA M) (H : Heap 𝓤) (A : Atoms 𝓤) (at-mem : 
     walk : Room u8 (length (a .0 .now)) → Room T.the-row (length (a .1 .0 .now)) → a .1 .1 .0 < 2 ^ 64 → a .1 .1 .1 .0 < 2 ^ 64
         → ent 𝓤 (onEntry 𝓤 H A fn.signature κs qs a (y .0 .4)) (WpFn 𝓤 H C Λ code.function (flat (typesAt (fn.signature .params) κs) (y .0 .4)) (PostOf fn.signature params 𝓤 H A W (fn.clauses 𝓤 H A at-mem run) y))
     walk room₀ room gt go =
+        -- entry: what the parameters own
         enters 𝓤 H A W fn.signature κs qs a (y .0 .4) ∵ move ! (1 ∷ []) $ twice W 0 (κs .0) u8 (a .0) $ enter ! C Λ code.function (flat (typesAt (fn.signature .params) κs) (y .0 .4)) _ $
+        -- the locals, and the parameters stored in theirs
         alloc1 ! (λ l0. alloc1 ! (λ l1. alloc1 ! (λ l2. alloc1 ! (λ l3. alloc1 ! (λ l4. alloc1 ! (λ l5. alloc1 ! (λ l6. alloc1 ! (λ l7. alloc1 ! (λ l8. alloc0 ! $ params1 ! $
         pass1 ! (init ! 14 refl (tt, (tt, (record { fits = room₀ .0 }, tt)))) $ pass1 ! (init ! 12 refl (tt, (tt, (record { fits = room .0 }, tt)))) $ pass1 ! (init ! 10 refl (tt, record { fits = gt })) $ pass1 ! (init ! 8 refl (tt, record { fits = go })) $ pass0 ! $
         assigns ! (of-opd ! (load ! (from ! (fld ! refl (stop !))) (look-in ! 12 (sub ! 1 refl (whole !))))) (from ! (stop !)) (init ! 6 refl (tt, record { fits = room .0 })) $
         assigns ! (bin ! (held ! 6 refl) (held ! 10 refl) tt) (from ! (stop !)) (init ! 4 refl (tt, tt)) $
+        -- the branch
         first ! $ branches ! (held ! 4 refl)
+        -- the call of drive::begin_past
         (λ past. move ! (20 ∷ []) $ tokens-apart W 2 κs qs $ counted W (length (a .1 .0 .now)) (room .0) $ counted W (a .1 .1 .0) gt $ counted W (a .1 .1 .1 .0) go $ move ! (3 ∷ []) $ tokens-together W 1 κs₀ qs₀ $ move ! (0 ∷ 23 ∷ 3 ∷ 2 ∷ 1 ∷ []) $ hands 𝓤 H A W past-end.signature (past-end.spec 𝓤 H A at-mem run) passed (id⊢ 𝓤 (emp 𝓤)) $
         calls-at ! fm Past known-p passed (and-then ! (held ! 16 refl) (and-then ! (held ! 8 refl) (and-then ! (held ! 12 refl) (and-then ! (held ! 10 refl) (no-more !))))) (λ v.
+        -- what comes back from it
         returned past-end.signature W (shared-slice 0 tt u8 .comes, (number .comes, (number .comes, (number .comes, tt)))) (past-end.clauses 𝓤 H A at-mem run) passed v (λ b zs. b ≡ beginTask (a .0 .now) (length (a .1 .0 .now)) (a .1 .1 .0) (a .1 .1 .1 .0) (idleTask 0) .answer) (λ b zs. id⊢ 𝓤 _) ! tt (λ b zs e kn.
-        move ! (5 ∷ []) $ peeks ! N.the-row (Is N.the-row) (shows 𝓤 H A N.the-row) b (v ∷ []) (λ is. land ! (from ! (stop !)) (init ! 23 refl (EL.lawful N.the-type N′.the-laws 𝓤 H A W tt .typed b _ is .0)) $
+        move ! (5 ∷ []) $ peeks ! N.the-row (Is N.the-row) (shows 𝓤 H A N.the-row) b (v ∷ []) (λ is. land ! (from ! (stop !)) (init ! 23 refl (enum-lawful N.the-type N′.the-laws 𝓤 H A W tt .typed b _ is .0)) $
+        -- return: the locals are freed
         returns-within ! Post refl (look ! 23 refl) $ move ! (down 23 9) $ frees-locals ! 9 refl $ move ! (8 ∷ []) $ unused W 1 (κs .1 .0) T.the-row (a .1 .0) $
         move ! (6 ∷ []) $ tokens-apart W 1 κs₀ qs₀ $ move ! (0 ∷ 7 ∷ []) $ tokens-together W 2 κs qs $ keep ! (0 ∷ 7 ∷ 1 ∷ 8 ∷ 9 ∷ 2 ∷ []) $
+        -- exit: what the contract asks for
         by ! (exits fn.signature params 𝓤 H A W (fn.clauses 𝓤 H A at-mem run) y v b (tt, (a .1 .0 .now, (tt, (tt, tt)))) (tt, (refl, (tt, (tt, tt)))) (factI 𝓤 _ (emp 𝓤) (begin-past (a .0 .now) (a .1 .0 .now) (a .1 .1 .0) (a .1 .1 .1 .0) b (leb→le (length (a .1 .0 .now)) (a .1 .1 .0) past) e)))))))
         (λ inside-row.
         let within : a .1 .1 .0 < length (a .1 .0 .now) = nleb→lt (length (a .1 .0 .now)) (a .1 .1 .0) inside-row in
         skips ! $ goes-on ! C Λ 9 mir-of.t-4 Post $
+        -- a slice is lent on
         lends-on ! 12 2 0 (refl, refl) refl refl refl (tt, tt) (refl, refl, refl) (tt, (tt, (record { fits = room .0 }, tt))) $
+        -- the call of drive::begin_in
         counted W (a .1 .1 .0) gt $ counted W (a .1 .1 .1 .0) go $ move ! (22 ∷ 20 ∷ 23 ∷ 1 ∷ 0 ∷ []) $ hands 𝓤 H A W inside.signature (inside.spec 𝓤 H A at-mem run) y (factI 𝓤 _ (emp 𝓤) within) $
         calls-at ! fm Inside known-i y (and-then ! (held ! 15 refl) (and-then ! (held ! 1 refl) (and-then ! (held ! 11 refl) (and-then ! (held ! 9 refl) (no-more !))))) (λ v.
+        -- what comes back from it
         returned inside.signature W (comesOf (fn.signature .params) params) (inside.clauses 𝓤 H A at-mem run) y v (λ b zs. BeginSaid (a .0 .now) (a .1 .0 .now) (a .1 .1 .0) (a .1 .1 .1 .0) (zs .1 .0) b) (λ b zs. id⊢ 𝓤 _) ! tt (λ b zs e kn.
-        move ! (5 ∷ []) $ peeks ! N.the-row (Is N.the-row) (shows 𝓤 H A N.the-row) b (v ∷ []) (λ is. land ! (from ! (stop !)) (init ! 22 refl (EL.lawful N.the-type N′.the-laws 𝓤 H A W tt .typed b _ is .0)) $
+        move ! (5 ∷ []) $ peeks ! N.the-row (Is N.the-row) (shows 𝓤 H A N.the-row) b (v ∷ []) (λ is. land ! (from ! (stop !)) (init ! 22 refl (enum-lawful N.the-type N′.the-laws 𝓤 H A W tt .typed b _ is .0)) $
+        -- return: the locals are freed
         returns ! (look ! 22 refl) $ move ! (down 22 9) $ frees-locals ! 9 refl $ keep ! (5 ∷ 6 ∷ 3 ∷ 7 ∷ 8 ∷ 0 ∷ []) $
+        -- exit: what the contract asks for
         by ! (exits fn.signature params 𝓤 H A W (fn.clauses 𝓤 H A at-mem run) y v b (tt, (zs .1 .0, (tt, (tt, tt)))) (tt, (kn .1 .0, (tt, (tt, tt)))) (factI 𝓤 _ (emp 𝓤) e)))))))))))))))
 
 pub begin-spec : {M : Type 1} → stated.statement M

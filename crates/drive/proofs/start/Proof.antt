@@ -1,10 +1,9 @@
 -- `drive::start` meets its contract, by a walk of its code: the cells are filled, the answer says how many records are, and these are filled.
-use Rattle.walks.proofs.Kit.{_≡_, refl, ap, ℕ, _≤_, [], _∷_, List, length, URA, fullShare, w64, tyInt, Val, vint, SProp, ent, emp, via, fst∗, id⊢, fat, Memory, Routine, Heap, Calls, Loops, WpFn, Atoms, Fun, factI, Lfts, Shares, givenOf, tables, Given, ‵, raw, _$_, _∵_, !, by, move, keep, drop, use0, rewrite, look, init, stop, fld, from, load, of-opd, and-then, no-more, assigns, land, returns, enter, alloc1, alloc0, params1, pass1, pass0, whole, sub, look-in, FmC, flat, Is, shows, mem, uint-lawful, uint-tells, u8, u64, usize, Room, typesAt, owned, peeks, only, Args, onEntry, tripleOf, Contract, Triple, calls-at, cited}
+use Rattle.walks.proofs.Kit.{_≡_, refl, ap, ℕ, _≤_, [], _∷_, List, length, URA, fullShare, w64, tyInt, Val, vint, SProp, ent, emp, via, fst∗, id⊢, fat, Memory, Routine, Heap, Calls, Loops, WpFn, Atoms, Fun, factI, Lfts, Shares, givenOf, tables, Given, ‵, raw, _$_, _∵_, !, by, move, keep, drop, use0, rewrite, look, init, stop, fld, from, load, of-opd, and-then, no-more, assigns, land, returns, enter, alloc1, alloc0, params1, pass1, pass0, whole, sub, look-in, FmC, flat, Is, shows, mem, uint-lawful, uint-tells, u8, u64, usize, Room, typesAt, owned, peeks, only, Args, onEntry, tripleOf, Contract, Triple, calls-at, cited, enum-lawful, enum-makes}
 use Rattle.walks.proofs.Parameters.{list-back, Handleds, shared-slice, given-slice, number, passedAs, silent}
 use Rattle.walks.proofs.Function.{enters, hands, twice, counted, tokens-apart, tokens-together, returned, exits, Passed, PostOf, meets-by-walk}
 use Rattle.walks.proofs.Locals.{held, lends-on, down, frees-locals}
 use denote.Plain.{Nothing, nothing-lawful}
-use denote.Enum.Laws as EL
 use Rattle.records.proofs.record.Task as T
 use Rattle.stepping.specs.declared.answer.StartAnswer.{StartAnswer}
 use Rattle.stepping.proofs.answer.StartAnswer as N
@@ -74,27 +73,39 @@ module _ {M : Type 1} (𝓤 : URA M) (H : Heap 𝓤) (A : Atoms 𝓤) (at-mem : 
     walk : Room u8 (length (a .0 .now)) → Room u64 (length (a .1 .0 .now)) → Room T.the-row (length (a .1 .1 .0 .now))
         → ent 𝓤 (onEntry 𝓤 H A fn.signature κs qs a (y .0 .4)) (WpFn 𝓤 H C Λ code.function (flat (typesAt (fn.signature .params) κs) (y .0 .4)) (PostOf fn.signature params 𝓤 H A W (fn.clauses 𝓤 H A at-mem run) y))
     walk room₀ room₁ room =
+        -- entry: what the parameters own
         enters 𝓤 H A W fn.signature κs qs a (y .0 .4) ∵ move ! (1 ∷ []) $ twice W 0 (κs .0) u8 (a .0) $ enter ! C Λ code.function (flat (typesAt (fn.signature .params) κs) (y .0 .4)) _ $
+        -- the locals, and the parameters stored in theirs
         alloc1 ! (λ l0. alloc1 ! (λ l1. alloc1 ! (λ l2. alloc1 ! (λ l3. alloc1 ! (λ l4. alloc1 ! (λ l5. alloc1 ! (λ l6. alloc1 ! (λ l7. alloc1 ! (λ l8. alloc1 ! (λ l9. alloc1 ! (λ l10. alloc1 ! (λ l11. alloc0 ! $ params1 ! $
         pass1 ! (init ! 20 refl (tt, (tt, (record { fits = room₀ .0 }, tt)))) $ pass1 ! (init ! 18 refl (tt, (tt, (record { fits = room₁ .0 }, tt)))) $ pass1 ! (init ! 16 refl (tt, (tt, (record { fits = room .0 }, tt)))) $ pass0 ! $
         assigns ! (of-opd ! (load ! (from ! (fld ! refl (stop !))) (look-in ! 16 (sub ! 1 refl (whole !))))) (from ! (stop !)) (init ! 14 refl (tt, record { fits = room .0 })) $
+        -- a slice is lent on
         lends-on ! 18 10 8 (refl, refl) refl refl refl (tt, tt) (refl, refl, refl) (tt, (tt, (record { fits = room₁ .0 }, tt))) $
+        -- the call of drive::start_cells
         move ! (26 ∷ []) $ tokens-apart W 3 κs qs $ counted W (length (a .1 .1 .0 .now)) (room .0) $ move ! (1 ∷ 2 ∷ []) $ tokens-together W 2 κs₀ qs₀ $ move ! (0 ∷ 27 ∷ 29 ∷ 1 ∷ []) $ hands 𝓤 H A W filled.signature (filled.spec 𝓤 H A at-mem run) passed (id⊢ 𝓤 (emp 𝓤)) $
         calls-at ! fm Filled known-s passed (and-then ! (held ! 22 refl) (and-then ! (held ! 10 refl) (and-then ! (held ! 16 refl) (no-more !)))) (λ v.
+        -- what comes back from it
         returned filled.signature W (shared-slice 0 tt u8 .comes, (list-back 1 tt u64, (number .comes, tt))) (filled.clauses 𝓤 H A at-mem run) passed v (λ b zs. CellsSaid (a .0 .now) (a .1 .0 .now) (length (a .1 .1 .0 .now)) b (zs .1 .0)) (λ b zs. id⊢ 𝓤 _) ! tt (λ b zs e kn.
-        move ! (4 ∷ []) $ peeks ! N.the-row (Is N.the-row) (shows 𝓤 H A N.the-row) b (v ∷ []) (λ is. land ! (from ! (stop !)) (init ! 18 refl (EL.lawful N.the-type N′.the-laws 𝓤 H A W tt .typed b _ is .0)) $
+        move ! (4 ∷ []) $ peeks ! N.the-row (Is N.the-row) (shows 𝓤 H A N.the-row) b (v ∷ []) (λ is. land ! (from ! (stop !)) (init ! 18 refl (enum-lawful N.the-type N′.the-laws 𝓤 H A W tt .typed b _ is .0)) $
+        -- a slice is lent on
         lends-on ! 22 10 8 (refl, refl) refl refl refl (tt, tt) (refl, refl, refl) (tt, (tt, (record { fits = room .0 }, tt))) $
-        owned ! N.the-row (Is N.the-row) (EL.makes N.the-type N′.the-plain 𝓤 H A) b (v ∷ []) is $ counted W (length (a .1 .1 .0 .now)) (room .0) $ use0 W (raw (emp 𝓤)) (id⊢ 𝓤 _) $ move ! (0 ∷ 2 ∷ 1 ∷ []) $ hands 𝓤 H A W count.signature (count.spec 𝓤 H A at-mem run) (asked b v) (id⊢ 𝓤 (emp 𝓤)) $
+        -- the call of drive::idle_count
+        owned ! N.the-row (Is N.the-row) (enum-makes N.the-type N′.the-plain 𝓤 H A) b (v ∷ []) is $ counted W (length (a .1 .1 .0 .now)) (room .0) $ use0 W (raw (emp 𝓤)) (id⊢ 𝓤 _) $ move ! (0 ∷ 2 ∷ 1 ∷ []) $ hands 𝓤 H A W count.signature (count.spec 𝓤 H A at-mem run) (asked b v) (id⊢ 𝓤 (emp 𝓤)) $
         calls-at ! fm Count known-c (asked b v) (and-then ! (held ! 19 refl) (and-then ! (held ! 21 refl) (no-more !))) (λ v′.
+        -- what comes back from it
         returned count.signature W (silent N.the-row (λ x w. refl), (number .comes, tt)) (count.clauses 𝓤 H A at-mem run) (asked b v) v′ (λ m ws. m ≡ idleCount b (length (a .1 .1 .0 .now))) (λ m ws. id⊢ 𝓤 _) ! tt (λ m ws em kn′.
         move ! (3 ∷ []) $ peeks ! usize (Is usize) (shows 𝓤 H A usize) m (v′ ∷ []) (λ im. drop ! $ land ! (from ! (stop !)) (init ! 9 refl (uint-lawful 𝓤 H A W w64 .typed m _ im .0)) $
         rewrite ! 9 (λ (u : Val). ‵ (fat fullShare (tyInt w64) l11 0 u)) (ap only (uint-tells w64 m (v′ ∷ []) im)) refl $
+        -- the call of drive::fill_row
         counted W m (im .1) $ move ! (9 ∷ []) $ tokens-together W 1 (κs .1 .1 .0, tt) (qs .1 .1 .0, tt) $ move ! (0 ∷ 35 ∷ 1 ∷ []) $ hands 𝓤 H A W fill.signature (fill.spec 𝓤 H A at-mem run) (given-to m) (factI 𝓤 _ (emp 𝓤) (fits-at (a .0 .now) (a .1 .0 .now) (a .1 .1 .0 .now) b m (e .0) em)) $
         calls-at ! fm Fill known-f (given-to m) (and-then ! (held ! 11 refl) (and-then ! (held ! 9 refl) (no-more !))) (λ v″.
+        -- what comes back from it
         returned fill.signature W (list-back 0 tt T.the-row, (number .comes, tt)) (fill.clauses 𝓤 H A at-mem run) (given-to m) v″ (λ u fs. fs .0 ≡ filledTo m (a .1 .1 .0 .now)) (λ u fs. id⊢ 𝓤 _) ! tt (λ u fs ef kn″.
         move ! (3 ∷ []) $ peeks ! Nothing (Is Nothing) (shows 𝓤 H A Nothing) u (v″ ∷ []) (λ iu. drop ! $ land ! (from ! (stop !)) (init ! 17 refl (nothing-lawful 𝓤 H A W .typed u _ iu .0)) $
-        assigns ! (of-opd ! (held ! 23 refl)) (from ! (stop !)) (init ! 33 refl (EL.lawful N.the-type N′.the-laws 𝓤 H A W tt .typed b _ is .0)) $
+        assigns ! (of-opd ! (held ! 23 refl)) (from ! (stop !)) (init ! 33 refl (enum-lawful N.the-type N′.the-laws 𝓤 H A W tt .typed b _ is .0)) $
+        -- return: the locals are freed
         returns ! (look ! 33 refl) $ move ! (down 33 12) $ frees-locals ! 12 refl $ move ! (2 ∷ []) $ tokens-apart W 1 (κs .1 .1 .0, tt) (qs .1 .1 .0, tt) $ move ! (10 ∷ []) $ tokens-apart W 2 κs₀ qs₀ $ tokens-together W 3 κs qs $ keep ! (0 ∷ 10 ∷ 8 ∷ 2 ∷ 6 ∷ []) $
+        -- exit: what the contract asks for
         by ! (exits fn.signature params 𝓤 H A W (fn.clauses 𝓤 H A at-mem run) y v b (tt, (zs .1 .0, (fs .0, tt))) (tt, (kn .1 .0, (kn″ .0, tt))) (factI 𝓤 _ (emp 𝓤) (said-at (a .0 .now) (a .1 .0 .now) (a .1 .1 .0 .now) b m (zs .1 .0) (fs .0) e em ef))))))))))))))))))))))))
 
 pub start-spec : {M : Type 1} → stated.statement M

@@ -1,9 +1,8 @@
 -- `drive_object::drive_begin` meets its contract, by a walk of its code: all is passed on to `drive::begin`, and the answer becomes a word.
-use Rattle.walks.proofs.Kit.{_≡_, refl, ap, _∙_, ℕ, _<_, _^_, [], _∷_, List, length, URA, w64, Val, SProp, ent, emp, via, fst∗, id⊢, Memory, Routine, Heap, Calls, Loops, WpFn, Atoms, Fun, factI, Lfts, Shares, givenOf, tables, Given, raw, _$_, _∵_, !, by, move, keep, use0, look, init, stop, from, and-then, no-more, land, returns, enter, alloc1, alloc0, params1, pass1, pass0, FmC, flat, Is, shows, mem, uint-lawful, u8, u64, Room, plain, typesAt, peeks, Args, onEntry, tripleOf, Contract, Triple, calls-at, cited}
+use Rattle.walks.proofs.Kit.{_≡_, refl, ap, _∙_, ℕ, _<_, _^_, [], _∷_, List, length, URA, w64, Val, SProp, ent, emp, via, fst∗, id⊢, Memory, Routine, Heap, Calls, Loops, WpFn, Atoms, Fun, factI, Lfts, Shares, givenOf, tables, Given, raw, _$_, _∵_, !, by, move, keep, use0, look, init, stop, from, and-then, no-more, land, returns, enter, alloc1, alloc0, params1, pass1, pass0, FmC, flat, Is, shows, mem, uint-lawful, u8, u64, Room, plain, typesAt, peeks, Args, onEntry, tripleOf, Contract, Triple, calls-at, cited, enum-lawful}
 use Rattle.walks.proofs.Parameters.{nothing-back, Handleds, shared-slice, given-slice, number, comesOf, passedAs}
 use Rattle.walks.proofs.Function.{enters, hands, twice, counted, returned, exits, Passed, PostOf, meets-by-walk}
 use Rattle.walks.proofs.Locals.{held, lends-on, down, frees-locals}
-use denote.Enum.Laws as EL
 use Rattle.records.specs.declared.record.Task.{Task}
 use Rattle.records.proofs.record.Task as T
 use Rattle.stepping.specs.declared.answer.BeginAnswer.{BeginAnswer}
@@ -51,19 +50,28 @@ module _ {M : Type 1} (𝓤 : URA M) (H : Heap 𝓤) (A : Atoms 𝓤) (at-mem : 
     walk : Room u8 (length (a .0 .now)) → Room T.the-row (length (a .1 .0 .now)) → a .1 .1 .0 < 2 ^ 64 → a .1 .1 .1 .0 < 2 ^ 64
         → ent 𝓤 (onEntry 𝓤 H A fn.signature κs qs a (y .0 .4)) (WpFn 𝓤 H C Λ code.function (flat (typesAt (fn.signature .params) κs) (y .0 .4)) (PostOf fn.signature params 𝓤 H A W (fn.clauses 𝓤 H A at-mem run) y))
     walk room₀ room₁ gt go =
+        -- entry: what the parameters own
         enters 𝓤 H A W fn.signature κs qs a (y .0 .4) ∵ move ! (1 ∷ []) $ twice W 0 (κs .0) u8 (a .0) $ enter ! C Λ code.function (flat (typesAt (fn.signature .params) κs) (y .0 .4)) _ $
+        -- the locals, and the parameters stored in theirs
         alloc1 ! (λ l0. alloc1 ! (λ l1. alloc1 ! (λ l2. alloc1 ! (λ l3. alloc1 ! (λ l4. alloc1 ! (λ l5. alloc1 ! (λ l6. alloc1 ! (λ l7. alloc0 ! $ params1 ! $
         pass1 ! (init ! 12 refl (tt, (tt, (record { fits = room₀ .0 }, tt)))) $ pass1 ! (init ! 10 refl (tt, (tt, (record { fits = room₁ .0 }, tt)))) $ pass1 ! (init ! 8 refl (tt, record { fits = gt })) $ pass1 ! (init ! 6 refl (tt, record { fits = go })) $ pass0 ! $
+        -- a slice is lent on
         lends-on ! 10 2 0 (refl, refl) refl refl refl (tt, tt) (refl, refl, refl) (tt, (tt, (record { fits = room₁ .0 }, tt))) $
+        -- the call of drive::begin
         counted W (a .1 .1 .0) gt $ counted W (a .1 .1 .1 .0) go $ move ! (20 ∷ 18 ∷ 21 ∷ 1 ∷ 0 ∷ []) $ hands 𝓤 H A W called.signature (called.spec 𝓤 H A at-mem run) y (id⊢ 𝓤 (emp 𝓤)) $
         calls-at ! fm Call known y (and-then ! (held ! 13 refl) (and-then ! (held ! 1 refl) (and-then ! (held ! 9 refl) (and-then ! (held ! 7 refl) (no-more !))))) (λ v.
+        -- what comes back from it
         returned called.signature W (comesOf (fn.signature .params) params) (called.clauses 𝓤 H A at-mem run) y v (λ b zs. BeginSaid (a .0 .now) (a .1 .0 .now) (a .1 .1 .0) (a .1 .1 .1 .0) (zs .1 .0) b) (λ b zs. id⊢ 𝓤 _) ! tt (λ b zs e kn.
-        move ! (5 ∷ []) $ peeks ! N.the-row (Is N.the-row) (shows 𝓤 H A N.the-row) b (v ∷ []) (λ is. land ! (from ! (stop !)) (init ! 10 refl (EL.lawful N.the-type N′.the-laws 𝓤 H A W tt .typed b _ is .0)) $
+        move ! (5 ∷ []) $ peeks ! N.the-row (Is N.the-row) (shows 𝓤 H A N.the-row) b (v ∷ []) (λ is. land ! (from ! (stop !)) (init ! 10 refl (enum-lawful N.the-type N′.the-laws 𝓤 H A W tt .typed b _ is .0)) $
+        -- the call of drive_object::begin_word
         use0 W (raw (emp 𝓤)) (id⊢ 𝓤 _) $ hands 𝓤 H A W word.signature (word.spec 𝓤 H A at-mem run) (told b v) (id⊢ 𝓤 (emp 𝓤)) $
         calls-at ! fm Word known-w (told b v) (and-then ! (held ! 10 refl) (no-more !)) (λ v′.
+        -- what comes back from it
         returned word.signature W (nothing-back (plain (λ _. N.the-row)) (λ κs x w. refl), tt) (word.clauses 𝓤 H A at-mem run) (told b v) v′ (λ r ws. r ≡ beginWord b) (λ r ws. id⊢ 𝓤 _) ! tt (λ r ws er kn′.
         move ! (2 ∷ []) $ peeks ! u64 (Is u64) (shows 𝓤 H A u64) r (v′ ∷ []) (λ ir. land ! (from ! (stop !)) (init ! 22 refl (uint-lawful 𝓤 H A W w64 .typed r _ ir .0)) $
+        -- return: the locals are freed
         returns ! (look ! 22 refl) $ move ! (down 22 8) $ frees-locals ! 8 refl $ keep ! (7 ∷ 8 ∷ 5 ∷ 9 ∷ 10 ∷ 0 ∷ []) $
+        -- exit: what the contract asks for
         by ! (exits fn.signature params 𝓤 H A W (fn.clauses 𝓤 H A at-mem run) y v′ r (tt, (zs .1 .0, (tt, (tt, tt)))) (tt, (kn .1 .0, (tt, (tt, tt)))) (factI 𝓤 _ (emp 𝓤) (word-said (a .0 .now) (a .1 .0 .now) (a .1 .1 .0) (a .1 .1 .1 .0) (zs .1 .0) b r e er)))))))))))))))))
 
 pub drive-begin-spec : {M : Type 1} → stated.statement M
