@@ -1,4 +1,4 @@
--- The table of ceilings follows the rule 1,000 × n × n × n.
+-- The table of ceilings follows the rule 1,000 × n × n × n, and no other number of tasks has a ceiling.
 use mathlib.Core.Path.{_≡_, refl}
 use mathlib.Core.Bool.{Bool, true, false, _&&_, and-eq-true-iff}
 use Prim.Native.Nat.{ℕ, suc, _*_, _-_, _≤_}

@@ -7,7 +7,7 @@ ghost use Rattle.cells.specs.Layout.{markOf, hasMark, addMark, removeMar
 pub const NO_MARKS: u8 = 0;
 
 // The place value of a task's mark; 0 for a task beyond the marks.
-pub fn mark_of(task: usize) -> u64
+fn mark_of(task: usize) -> u64
     ensures { λ r. ⌜ r ≡ markOf task ⌝ }
 {
     if task < layout::MARK_COUNT {

@@ -2,9 +2,9 @@
 use mathlib.Core.Bool.{Bool, true, false, cond}
 use mathlib.Core.List.{List, [], _∷_}
 use Prim.Native.Nat.{ℕ, suc}
-use Rattle.machine.specs.Demand.{Shown}
 use lib.Dec.{ltb}
 use Rattle.laws.specs.Update.{update}
+use Rattle.machine.specs.Demand.{Shown}
 use Rattle.machine.specs.Object.{Object}
 use Rattle.machine.specs.Calls.{Call, Begin, Step, Answer, Begun, Running, Ended, Refused, Event}
 use Rattle.machine.specs.Memory.{Memory, image}

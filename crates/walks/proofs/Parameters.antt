@@ -13,7 +13,7 @@ use prog.Wp.{Heap}
 use ghost.Atoms.{Atoms, sem}
 use contract.Lifetimes.{Lfts, Within}
 use types.Kit.{Given, ‵, _$_, _∵_, !, qed, move, fsplit, feqL, check, done}
-use denote.RattleType.{RattleType, Denots}
+use denote.RattleType.{RattleType}
 use denote.Laws.{Is, Ises, Tells, Spells, Tellss, valss}
 use denote.Plain.{uint-vals, uint-tells}
 use denote.Builtin.{usize}

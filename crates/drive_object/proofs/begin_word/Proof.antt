@@ -1,3 +1,4 @@
+-- The word of a begin's answer.
 use borrow.Author.Needs.{needs}
 use Rattle.drive_object.proofs.begin_word.Statement.{statement}
 use Rattle.drive_object.proofs.begin_word.Tie as tie

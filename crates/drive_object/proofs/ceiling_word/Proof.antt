@@ -1,3 +1,4 @@
+-- The word of a ceiling.
 use borrow.Author.Needs.{needs}
 use Rattle.drive_object.proofs.ceiling_word.Statement.{statement}
 use Rattle.drive_object.proofs.ceiling_word.Tie as tie

@@ -1,3 +1,4 @@
+-- The word of a check's answer.
 use borrow.Author.Needs.{needs}
 use Rattle.drive_object.proofs.check_word.Statement.{statement}
 use Rattle.drive_object.proofs.check_word.Tie as tie

@@ -1,3 +1,4 @@
+-- The exported ceiling: the word of the row's ceiling.
 use borrow.Author.Needs.{needs}
 use Rattle.drive_object.proofs.drive_ceiling.Statement.{statement}
 use Rattle.drive_object.proofs.drive_ceiling.Tie as tie

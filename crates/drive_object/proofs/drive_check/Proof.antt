@@ -1,3 +1,4 @@
+-- The exported check: the word of what the table's check says.
 use borrow.Author.Needs.{needs}
 use Rattle.drive_object.proofs.drive_check.Statement.{statement}
 use Rattle.drive_object.proofs.drive_check.Tie as tie

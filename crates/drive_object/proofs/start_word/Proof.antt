@@ -1,3 +1,4 @@
+-- The word of a start's answer.
 use borrow.Author.Needs.{needs}
 use Rattle.drive_object.proofs.start_word.Statement.{statement}
 use Rattle.drive_object.proofs.start_word.Tie as tie

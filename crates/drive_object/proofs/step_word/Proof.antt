@@ -1,3 +1,4 @@
+-- The word of a step's answer.
 use borrow.Author.Needs.{needs}
 use Rattle.drive_object.proofs.step_word.Statement.{statement}
 use Rattle.drive_object.proofs.step_word.Tie as tie

@@ -1,3 +1,4 @@
+-- The words of a pending record are in form as the definition has it.
 use mathlib.Core.Path.{sym, _∙_}
 use borrow.Author.Tests.{not-false, not-true}
 use Rattle.records.specs.Record.{wordsInForm}

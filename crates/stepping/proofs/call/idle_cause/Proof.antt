@@ -1,3 +1,4 @@
+-- An idle task's step is refused as idle if its record is in form, and as out of form otherwise.
 use mathlib.Core.Path.{sym, _∙_}
 use borrow.Author.Needs.{needs}
 use Rattle.stepping.proofs.call.idle_cause.Statement.{statement}
