@@ -1,4 +1,3 @@
-pub mod Values
 pub mod Records
 pub mod Calls
 pub mod Starts

@@ -1,4 +1,4 @@
--- A record in a local: lent under a new name, and back in its local once the lifetime is over.
+-- The machine value of a record, and a record in a local: lent under a new name, and back in its local once the lifetime is over.
 use mathlib.Core.Path.{refl, subst}
 use Prim.Native.Nat.{ℕ}
 use mathlib.Core.List.{[], _∷_, List}
@@ -15,12 +15,15 @@ use types.SemTy.{Body}
 use denote.Laws.{Is, shows}
 use denote.Memory.{cellAt, partOf, mem}
 use denote.Lend.{LentRef, lends-ref, ref-back}
-use denote.Steps.{owned, peeks}
+use denote.Steps.{owned, peeks, only}
 use denote.Struct.Laws as LL
 use Rattle.records.specs.declared.record.Task.{Task}
 use Rattle.records.proofs.record.Task as T
 use Rattle.records.proofs.record.Task.Laws as T′
-use Rattle.drive.proofs.Values.{mach}
+
+-- The machine value of a record.
+abbrev pub mach : Task → Val
+mach h = only (LL.vals T.the-type T′.the-laws h)
 
 -- A record has its machine value.
 abbrev pub Plain : Task → Type 0

@@ -3,7 +3,7 @@ use Rattle.walks.proofs.Kit.{_≡_, refl, ap, subst, ℕ, _<_, _^_, [], _∷_, 
 use Rattle.walks.proofs.Parameters.{Handleds, shared-slice, kept-record, number, passedAs, silent}
 use Rattle.walks.proofs.Function.{enters, hands, twice, counted, tokens-apart, tokens-together, returned, exits, Passed, PostOf, meets-by-walk}
 use Rattle.walks.proofs.Locals.{held, down, frees-locals}
-use Rattle.drive.proofs.Values.{mach}
+use Rattle.drive.proofs.Records.{mach}
 use Rattle.records.specs.declared.record.Task.{Task}
 use Rattle.records.proofs.record.Task as T
 use Rattle.records.proofs.record.Task.Laws as T′

@@ -3,7 +3,7 @@
 use Rattle.walks.proofs.Kit.{_≡_, refl, ap, sym, _∙_, subst, Bool, ℕ, _<_, _≤_, _^_, _*_, _+_, _-_, [], _∷_, List, length, set, length-set, URA, fullShare, named, mut, w64, tyInt, tyRef, tyPtr, tyBool, Val, vint, vptr, vbool, vunit, Fits, SProp, ent, emp, id⊢, GName, flft, fat, fobs, fbor, Memory, Routine, Heap, WpFn, Tables, Atoms, Fun, factI, Lfts, Shares, givenOf, tables, Given, ‵, raw, _$_, _∵_, !, by, move, keep, drop, use0, fsplit, fjoin, feqI, rewrite, look, init, store, store-raw, stop, hop, fld, from, load, bin, lit, of-opd, and-then, no-more, assigns, land, first, returns, enter, alloc1, alloc0, params1, pass1, pass0, whole, sub, look-in, flat, Is, shows, mem, pointee, sliceTy, sliceVal, Room, heres, codedHoleys, at-slice, Held, place-is, elem-out, elem-put, opens-slice, closes-slice, pureI, typesAt, owned, peeks, only, Args, onEntry, tripleOf, Contract, Triple, calls-at, cited, needs, arith, scaled-fits, struct-lawful, struct-makes, struct-tells, struct-vals}
 use Rattle.walks.proofs.Parameters.{Handleds, kept-slice, number, passedAs}
 use Rattle.walks.proofs.Function.{enters, hands, counted, tokens-apart, tokens-together, returned, exits, Passed, PostOf, walked-through}
-use Rattle.walks.proofs.Locals.{held, down, frees-locals, goes-on}
+use Rattle.walks.proofs.Locals.{decide, held, down, frees-locals, goes-on}
 use mathlib.Core.WellFounded.{WellFounded, InvImage·wf}
 use lib.WfN.{Nat·lt-wfRel}
 use lib.Dec.{ltb, lit<}
@@ -16,7 +16,7 @@ use types.Kit.{Item}
 use types.Run.{forget, unit-lit, assigns-last, blocks, loops, again, stays, leaves-loop}
 use sound.WpLaws.{fmOf}
 use denote.Triple.Table.{entered}
-use Rattle.drive.proofs.Values.{mach, decide}
+use Rattle.drive.proofs.Records.{mach}
 use Rattle.records.specs.declared.record.Task.{Task}
 use Rattle.records.proofs.record.Task as T
 use Rattle.records.proofs.record.Task.Laws as T′

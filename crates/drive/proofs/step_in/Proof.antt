@@ -4,8 +4,7 @@ use Rattle.walks.proofs.Kit.{refl, ap, sym, subst, ℕ, _<_, _^_, _*_, [], _∷
 use Rattle.walks.proofs.Parameters.{list-back, value-back, Handleds, shared-slice, given-slice, kept-slice, number, passedAs}
 use Rattle.walks.proofs.Function.{enters, hands, twice, counted, tokens-apart, tokens-together, returned, exits, Passed, PostOf, meets-by-walk}
 use Rattle.walks.proofs.Locals.{held, lends-on, frees-locals}
-use Rattle.drive.proofs.Values.{mach}
-use Rattle.drive.proofs.Records.{Plain, record-at, RecordBody, lends-record, record-back}
+use Rattle.drive.proofs.Records.{mach, Plain, record-at, RecordBody, lends-record, record-back}
 use Rattle.records.specs.declared.record.Task.{Task}
 use Rattle.records.proofs.record.Task as T
 use Rattle.records.proofs.record.Task.Laws as T′
