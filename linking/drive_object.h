@@ -1,7 +1,7 @@
 /*
  * The drive object for kernels in C: a table of states and operations that up to eight tasks share through 64-bit
- * cells. Link with libdrive_object.a. The contract is document 01, "The drive object, its cells and its steps";
- * docs/LINKING.md is the page about linking.
+ * cells. Link with libdrive_object.a. docs/LINKING.md is the page about linking; table files, cells and refusals stand
+ * in docs/FORMATS.md, runs and steps in docs/RUNS.md.
  *
  * What the caller owes, at every call:
  *  - Lent memory is valid for the whole call, to its given length: `file` to be read, `cells`, `row` and the one record
@@ -16,8 +16,8 @@
  * and allocates nothing; start calls memset, and no call anything else.
  *
  * Every call answers with one word, which the drive_answer functions below read. Byte 0, the lowest, is 0 if the call
- * is accepted, else the number of the first cause that holds; then every other byte is 0 and everything lent is left
- * as it was.
+ * is accepted, else the number of the first cause that holds; then everything lent is left as it was. Bits 1 to 7 of
+ * byte 1 are reserved, and no reader looks at them.
  */
 #ifndef DRIVE_OBJECT_H
 #define DRIVE_OBJECT_H
@@ -34,7 +34,10 @@ extern "C" {
  * task i. */
 #define DRIVE_MOST_TASKS 8
 
-/* Why a call is not served. */
+/* The longest table file in bytes. */
+#define DRIVE_LONGEST_FILE 20496
+
+/* Why a call is not served; docs/FORMATS.md, "When a call is not served". */
 enum drive_refusal {
     DRIVE_FILE = 1,        /* file under 16 or over 20,496 bytes, or mark wrong */
     DRIVE_DIMENSIONS = 2,  /* states or operations out of range, or start state not below states */
@@ -122,7 +125,7 @@ uint64_t drive_ceiling(size_t task_count);
 static inline unsigned drive_answer_refusal(uint64_t answer) { return (unsigned)(answer & 0xff); }
 
 /* Of a step: whether the operation has ended. If not, and the step was accepted, it is running. */
-static inline bool drive_answer_ended(uint64_t answer) { return (answer >> 8 & 0xff) == 1; }
+static inline bool drive_answer_ended(uint64_t answer) { return answer >> 8 & 1; }
 
 /* Of a step that ended an operation: the response. */
 static inline uint16_t drive_answer_response(uint64_t answer) { return (uint16_t)(answer >> 16); }

@@ -11,7 +11,7 @@
 
 #include "../drive_object.h"
 
-enum { TASKS = 3, MOST_OPERATIONS = 4, LONGEST_FILE = 20496 };
+enum { TASKS = 3, MOST_OPERATIONS = 4 };
 
 /* The flag object's operations: the response is the old state. */
 enum { READ, SET, CLEAR };
@@ -34,7 +34,7 @@ static const struct {
 
 /* What the library is lent, and what the kernel knows of its tasks. */
 struct kernel {
-    uint8_t file[LONGEST_FILE + 1];
+    uint8_t file[DRIVE_LONGEST_FILE + 1];
     size_t file_length;
     uint64_t cells[TASKS + 1];
     drive_task row[TASKS];

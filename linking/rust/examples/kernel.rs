@@ -58,7 +58,7 @@ fn run() -> Result<(), String> {
 }
 
 fn refused(refusal: Refusal) -> String {
-    format!("refused with {}", refusal.number())
+    format!("refused with {}: {refusal}", refusal.number())
 }
 
 fn expect(fact: bool, what: &str) -> Result<(), String> {

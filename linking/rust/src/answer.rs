@@ -1,75 +1,68 @@
-//! What the calls answer, and how an answer's word is read: byte 0, the lowest, is the refusal's number or 0.
+//! What the calls answer, and how an answer's word is read: byte 0, the lowest, is the refusal's number or 0. Bits 1 to 7
+//! of byte 1 are reserved, and no reader looks at them.
 
-/// Why a call is not served, with document 01's numbers.
-#[derive(Clone, Copy, Debug, PartialEq, Eq)]
-pub enum Refusal {
-    /// 1: file under 16 or over 20,496 bytes, or mark wrong.
-    File,
-    /// 2: states or operations out of range, or start state not below states.
-    Dimensions,
-    /// 3: offset over 4,096, or text, entries and trailer do not make up the length.
-    Length,
-    /// 4: next state not below states, in the entries tested.
-    NextState,
-    /// 5: row of 0 or over 8 records.
-    Row,
-    /// 6: cells not one more than records.
-    Cells,
-    /// 7: task number not below the number of records.
-    Task,
-    /// 8: operation not below operations.
-    Operation,
-    /// 9: begin with an operation pending.
-    Pending,
-    /// 10: step with none pending.
-    Idle,
-    /// 11: record out of the forms in `docs/RECORDS.md`.
-    Record,
-    /// 12: touched cell out of form.
-    Cell,
-    /// A number that no call answers: what is linked isn't this library.
-    Unknown(u8),
+use core::fmt;
+
+/// Declares the refusals from one list of numbers, names and sentences.
+macro_rules! refusals {
+    ($($number:literal $name:ident $sentence:literal)*) => {
+        /// Why a call is not served: the numbers and causes of `docs/FORMATS.md`, "When a call is not served". It is
+        /// displayed as the cause's sentence.
+        #[derive(Clone, Copy, Debug, PartialEq, Eq)]
+        pub enum Refusal {
+            $(
+                #[doc = concat!(stringify!($number), ": ", $sentence, ".")]
+                $name,
+            )*
+            /// A number that no call answers: what is linked isn't this library.
+            Unknown(u8),
+        }
+
+        impl Refusal {
+            /// The number of the cause.
+            pub fn number(self) -> u8 {
+                match self {
+                    $(Refusal::$name => $number,)*
+                    Refusal::Unknown(number) => number,
+                }
+            }
+
+            #[inline]
+            fn of_number(number: u8) -> Refusal {
+                match number {
+                    $($number => Refusal::$name,)*
+                    other => Refusal::Unknown(other),
+                }
+            }
+        }
+
+        impl fmt::Display for Refusal {
+            fn fmt(&self, formatter: &mut fmt::Formatter<'_>) -> fmt::Result {
+                match self {
+                    $(Refusal::$name => formatter.write_str($sentence),)*
+                    Refusal::Unknown(number) => write!(formatter, "a number that no call answers: {number}"),
+                }
+            }
+        }
+    };
 }
 
-impl Refusal {
-    /// Document 01's number.
-    pub fn number(self) -> u8 {
-        match self {
-            Refusal::File => 1,
-            Refusal::Dimensions => 2,
-            Refusal::Length => 3,
-            Refusal::NextState => 4,
-            Refusal::Row => 5,
-            Refusal::Cells => 6,
-            Refusal::Task => 7,
-            Refusal::Operation => 8,
-            Refusal::Pending => 9,
-            Refusal::Idle => 10,
-            Refusal::Record => 11,
-            Refusal::Cell => 12,
-            Refusal::Unknown(number) => number,
-        }
-    }
-
-    #[inline]
-    fn of_number(number: u8) -> Refusal {
-        match number {
-            1 => Refusal::File,
-            2 => Refusal::Dimensions,
-            3 => Refusal::Length,
-            4 => Refusal::NextState,
-            5 => Refusal::Row,
-            6 => Refusal::Cells,
-            7 => Refusal::Task,
-            8 => Refusal::Operation,
-            9 => Refusal::Pending,
-            10 => Refusal::Idle,
-            11 => Refusal::Record,
-            12 => Refusal::Cell,
-            other => Refusal::Unknown(other),
-        }
-    }
+refusals! {
+    1 File "the file has under 16 or over 20,496 bytes, or does not end in DRIVE1"
+    2 Dimensions "the states are not 1 to 256, the operations are not 1 to 32, or the start state is not below the states"
+    3 Length "the text has over 4,096 bytes, or text, entries and trailer do not make up the file's length"
+    4 NextState "the next state of an entry is not below the number of states"
+    5 Row "the number of tasks is not 1 to 8"
+    6 Cells "the cells are not one more than the tasks"
+    7 Task "the task number is not below the number of tasks"
+    8 Operation "the operation number is not below the number of operations"
+    9 Pending "the task has an operation pending"
+    10 Idle "the task has no operation pending"
+    11 Record "the task's record is out of form"
+    12 Cell "the touched cell is out of form"
 }
+
+impl core::error::Error for Refusal {}
 
 /// What the trailer of a checked table says.
 #[derive(Clone, Copy, Debug, PartialEq, Eq)]
@@ -115,10 +108,10 @@ pub fn shape(word: u64) -> Result<Shape, Refusal> {
     })
 }
 
-/// Byte 1 is 1 if the operation has ended; then bytes 2 and 3 are the response, and 4 to 7 the own steps.
+/// Bit 0 of byte 1 is 1 if the operation has ended; then bytes 2 and 3 are the response, and 4 to 7 the own steps.
 #[inline]
 pub fn progress(word: u64) -> Result<Progress, Refusal> {
-    accepted(word).map(|word| match (word >> 8) as u8 {
+    accepted(word).map(|word| match word >> 8 & 1 {
         0 => Progress::Running,
         _ => Progress::Ended {
             response: (word >> 16) as u16,
@@ -131,4 +124,72 @@ pub fn progress(word: u64) -> Result<Progress, Refusal> {
 #[inline]
 pub fn ceiling(word: u64) -> Result<u32, Refusal> {
     accepted(word).map(|word| (word >> 32) as u32)
+}
+
+#[cfg(test)]
+mod tests {
+    extern crate std;
+
+    use std::string::ToString;
+
+    use super::*;
+
+    /// The word with each value of the reserved bits.
+    fn with_reserved(word: u64) -> impl Iterator<Item = u64> {
+        (0..1 << 7).map(move |bits: u64| word | bits << 9)
+    }
+
+    #[test]
+    fn running_steps_are_read_without_the_reserved_bits() {
+        for word in with_reserved(0) {
+            assert_eq!(progress(word), Ok(Progress::Running));
+        }
+    }
+
+    #[test]
+    fn ended_steps_are_read_without_the_reserved_bits() {
+        let ended = Progress::Ended {
+            response: 0xabcd,
+            steps: 0x1234_5678,
+        };
+        for word in with_reserved(0x1234_5678_abcd_0100) {
+            assert_eq!(progress(word), Ok(ended));
+        }
+    }
+
+    #[test]
+    fn other_answers_are_read_without_the_reserved_bits() {
+        let read = Shape {
+            states: 0xabcd,
+            operations: 0x5678,
+            start: 0x1234,
+        };
+        for word in with_reserved(0x1234_5678_abcd_0000) {
+            assert_eq!(accepted(word), Ok(word));
+            assert_eq!(shape(word), Ok(read));
+            assert_eq!(ceiling(word), Ok(0x1234_5678));
+        }
+    }
+
+    #[test]
+    fn refusals_are_read_without_the_reserved_bits() {
+        for number in 1..=u8::MAX {
+            let refusal = Refusal::of_number(number);
+            assert_eq!(refusal.number(), number);
+            assert_eq!(matches!(refusal, Refusal::Unknown(_)), number > 12);
+            for word in with_reserved(u64::from(number)) {
+                assert_eq!(accepted(word), Err(refusal));
+                assert_eq!(shape(word), Err(refusal));
+                assert_eq!(progress(word), Err(refusal));
+                assert_eq!(ceiling(word), Err(refusal));
+            }
+        }
+    }
+
+    #[test]
+    fn refusals_are_displayed_as_their_sentences() {
+        assert_eq!(Refusal::Cell.to_string(), "the touched cell is out of form");
+        let unknown = Refusal::Unknown(200).to_string();
+        assert_eq!(unknown, "a number that no call answers: 200");
+    }
 }

@@ -1,6 +1,6 @@
 //! The drive object for kernels in Rust: a table of states and operations that up to eight tasks share through 64-bit
-//! cells. The contract is document 01, "The drive object, its cells and its steps"; `docs/LINKING.md` is the page about
-//! linking.
+//! cells. `docs/LINKING.md` is the page about linking; table files, cells and refusals stand in `docs/FORMATS.md`, runs
+//! and steps in `docs/RUNS.md`.
 //!
 //! The borrows say most of what a caller owes: file, cells, row and record are valid for the whole call, do not overlap,
 //! and nobody else writes them meanwhile. What is left to the kernel:
@@ -22,6 +22,9 @@ pub use answer::{Progress, Refusal, Shape};
 
 /// The most tasks of a run. It has one cell more than tasks: cell 0 is the head, cell i + 1 the announcement of task i.
 pub const MOST_TASKS: usize = 8;
+
+/// The longest table file in bytes.
+pub const LONGEST_FILE: usize = 20_496;
 
 /// The private record of a task, whose number is its place in the row. [`start`] fills it; only the calls write it. The
 /// forms stand in `docs/RECORDS.md`.

@@ -5,7 +5,7 @@ mod both;
 use std::collections::BTreeSet;
 
 use both::{By, Lent};
-use drive_object::{Refusal, Shape, Task};
+use drive_object::{Refusal, Shape, Task, LONGEST_FILE};
 use reference::refusal;
 use reference::table::Table;
 use reference::table_file::TableFile;
@@ -29,7 +29,7 @@ fn files() -> Vec<Vec<u8>> {
         damaged(&|file| file.entries[10] = 255),
         flag.clone().with_text(vec![b' '; 4_096]).to_bytes(),
         flag.clone().with_text(vec![b' '; 4_097]).to_bytes(),
-        vec![0; 20_497],
+        vec![0; LONGEST_FILE + 1],
     ]
 }
 
