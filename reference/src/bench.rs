@@ -7,6 +7,7 @@ use std::path::Path;
 use crate::calls;
 use crate::ceiling::ceiling;
 use crate::cells::{count_marks, MOST_TASKS};
+use crate::configuration::Configuration;
 use crate::lines::{parse_line, split_lines, Line};
 use crate::machine::Answer;
 use crate::record::Record;
@@ -25,7 +26,7 @@ struct Run {
 }
 
 /// What a line prints, if it prints anything.
-type Printed = Result<Option<String>, Refusal>;
+pub type Printed = Result<Option<String>, Refusal>;
 
 /// Everything that the bench prints for a table file and an input.
 pub fn output(file: &[u8], input: &[u8]) -> String {
@@ -59,6 +60,15 @@ fn refusal_line(refusal: Refusal) -> String {
     format!("x {}\n", refusal.number())
 }
 
+/// The printed line, or nothing.
+pub fn text_of(printed: Printed) -> String {
+    match printed {
+        Ok(None) => String::new(),
+        Ok(Some(text)) => format!("{text}\n"),
+        Err(refusal) => refusal_line(refusal),
+    }
+}
+
 impl<'a> Bench<'a> {
     pub fn new(file: &'a [u8]) -> Result<Bench<'a>, Refusal> {
         let table = Table::check(file)?;
@@ -67,14 +77,11 @@ impl<'a> Bench<'a> {
 
     /// Serves one line and gives what it prints.
     pub fn serve(&mut self, line: &[u8]) -> String {
-        match self.try_to_serve(line) {
-            Ok(None) => String::new(),
-            Ok(Some(text)) => format!("{text}\n"),
-            Err(refusal) => refusal_line(refusal),
-        }
+        text_of(self.try_to_serve(line))
     }
 
-    fn try_to_serve(&mut self, line: &[u8]) -> Printed {
+    /// Serves one line.
+    pub fn try_to_serve(&mut self, line: &[u8]) -> Printed {
         let line = parse_line(line).ok_or(Refusal::Line)?;
         match (line, &mut self.run) {
             (Line::Start { tasks }, _) => self.start(tasks),
@@ -99,6 +106,16 @@ impl<'a> Bench<'a> {
         self.run = Some(run);
         let (states, operations) = (self.table.states, self.table.operations);
         Ok(Some(format!("n {tasks} {states} {operations}")))
+    }
+
+    pub fn table(&self) -> Table<'a> {
+        self.table
+    }
+
+    /// The present run's cells and row, if there is a run.
+    pub fn point(&self) -> Option<Configuration> {
+        let run = self.run.as_ref()?;
+        Some(Configuration::of_parts(&run.cells, &run.row))
     }
 
     pub fn operations(&self) -> usize {

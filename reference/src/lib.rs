@@ -39,6 +39,9 @@ mod search;
 pub mod table;
 mod table_cases;
 pub mod table_file;
+pub mod trace;
+pub mod trace_event;
+mod trace_steps;
 mod transition;
 #[cfg(test)]
 mod wrong_rules;

@@ -6,7 +6,9 @@ use std::process::ExitCode;
 
 use reference::compare_bench::{compare_bench, RANDOM_SCRIPTS};
 use reference::listings::{check_listings, write_listings};
-use reference::{bench, ceiling, compare_tables, exploration, kernel, long_operations, table};
+use reference::{
+    bench, ceiling, compare_tables, exploration, kernel, long_operations, table, trace, trace_event,
+};
 
 const USAGE: &str = "usage: reference check-table < FILE
        reference compare-tables PATH_TO_check_table
@@ -14,6 +16,7 @@ const USAGE: &str = "usage: reference check-table < FILE
        reference search [TASKS]
        reference longest [TASKS]
        reference bench < LINES
+       reference trace TABLE LINES
        reference compare-bench PATH_TO_bench [COUNT]
        reference listings CRATES [--check]
        reference kernel";
@@ -30,6 +33,7 @@ fn main() -> ExitCode {
         ["longest"] => long_operations::exact_for(&[1, 2, 3]),
         ["longest", tasks] => task_count(tasks).and_then(|tasks| long_operations::exact_for(&[tasks])),
         ["bench"] => bench_here(),
+        ["trace", table, lines] => trace_files(table, lines),
         ["compare-bench", program] => compare_bench(program, RANDOM_SCRIPTS).map(print_line),
         ["compare-bench", program, count] => match count.parse() {
             Ok(count) => compare_bench(program, count).map(print_line),
@@ -83,5 +87,13 @@ fn bench_here() -> Result<(), String> {
         "{}",
         bench::output(&bench::read_table_file(Path::new(".")), &input)
     );
+    Ok(())
+}
+
+/// Prints the trace of a table file and a file of lines.
+fn trace_files(table: &str, lines: &str) -> Result<(), String> {
+    let read = |path: &str| std::fs::read(path).map_err(|error| format!("{path}: {error}"));
+    let text = trace::trace(&read(table)?, &read(lines)?).map_err(trace_event::refused)?;
+    print!("{text}");
     Ok(())
 }
