@@ -128,23 +128,23 @@ mod tests {
 > b 0 1
   task 0 begins operation 1, changing
 > d 0
-  task 0  step   1  Announce          write  announcement 0  0000000000000000 -> 0000000000010100  operation 1
-  task 0  step   2  Poll              read   announcement 0  0000000000010100                      operation 1
-  task 0  step   3  LoadHead          read   head            0000000000000000                      state 0
-  task 0  step   4  LinkHead          swap   head            0000000000000000 -> 0000000000000001  state 0, marked by 0
-  task 0  step   5  LoadPriority      read   announcement 0  0000000000010100                      operation 1
-  task 0  step   6  Apply 0           swap   head            0000000000000001 -> 0000000001000100  state 1, response 0 for task 0
-  task 0  step   7  Poll              read   announcement 0  0000000000010100                      operation 1
-  task 0  step   8  LoadHead          read   head            0000000001000100                      state 1, response 0 for task 0
-  task 0  step   9  LinkHead          swap   head            0000000001000100 -> 0000000001000101  state 1, response 0 for task 0, marked by 0
-  task 0  step  10  LoadHelped 0      read   announcement 0  0000000000010100                      operation 1
-  task 0  step  11  LinkHelped 0      swap   announcement 0  0000000000010100 -> 0000000000010101  operation 1, marked by 0
-  task 0  step  12  Validate 0        read   head            0000000001000101                      state 1, response 0 for task 0, marked by 0
-  task 0  step  13  HandOver 0        swap   announcement 0  0000000000010101 -> 0000000000000200  response 0
-  task 0  step  14  ClearHead         swap   head            0000000001000101 -> 0000000000000100  state 1
-  task 0  step  15  Poll              read   announcement 0  0000000000000200                      response 0
-  task 0  step  16  LoadExit          read   head            0000000000000100                      state 1
-  task 0  step  17  Retract           write  announcement 0  0000000000000200 -> 0000000000000000  empty
+  task 0  step   1  Announce          write  announcement 0  0000000000000000 -> 0000000000010100    operation 1
+  task 0  step   2  Poll              read   announcement 0  0000000000010100                        operation 1
+  task 0  step   3  LoadHead          read   head            0000000000000000                        state 0
+  task 0  step   4  LinkHead          swap   head            0000000000000000 -> 0000000000000001    state 0, marked by 0
+  task 0  step   5  LoadPriority      read   announcement 0  0000000000010100                        operation 1
+  task 0  step   6  Apply 0           swap   head            0000000000000001 -> 0000000001000100    state 1, response 0 for task 0
+  task 0  step   7  Poll              read   announcement 0  0000000000010100                        operation 1
+  task 0  step   8  LoadHead          read   head            0000000001000100                        state 1, response 0 for task 0
+  task 0  step   9  LinkHead          swap   head            0000000001000100 -> 0000000001000101    state 1, response 0 for task 0, marked by 0
+  task 0  step  10  LoadHelped 0      read   announcement 0  0000000000010100                        operation 1
+  task 0  step  11  LinkHelped 0      swap   announcement 0  0000000000010100 -> 0000000000010101    operation 1, marked by 0
+  task 0  step  12  Validate 0        read   head            0000000001000101                        state 1, response 0 for task 0, marked by 0
+  task 0  step  13  HandOver 0        swap   announcement 0  0000000000010101 -> 0000000000000200    response 0
+  task 0  step  14  ClearHead         swap   head            0000000001000101 -> 0000000000000100    state 1
+  task 0  step  15  Poll              read   announcement 0  0000000000000200                        response 0
+  task 0  step  16  LoadExit          read   head            0000000000000100                        state 1
+  task 0  step  17  Retract           write  announcement 0  0000000000000200 -> 0000000000000000    empty
   task 0 ends operation 1: response 0, own steps 17
   at rest in state 1
 < r 0 0
@@ -154,7 +154,7 @@ mod tests {
     const TASK_1_READS: &str = "> b 1 0
   task 1 begins operation 0, reading
 > s 1
-  task 1  step   1  ReadOnly          read   head            0000000000000100                      state 1
+  task 1  step   1  ReadOnly          read   head            0000000000000100                        state 1
   task 1 ends operation 0: response 1, own steps 1
 < r 1 1
 > b 1 2
@@ -169,7 +169,7 @@ mod tests {
 
     /// How the last line but one of the flag listing ends, and the last one.
     const TASK_1_CLEARS: &str = "
-  task 1  step  17  Retract           write  announcement 1  0000000000010200 -> 0000000000000000  empty
+  task 1  step  17  Retract           write  announcement 1  0000000000010200 -> 0000000000000000    empty
   task 1 ends operation 2: response 1, own steps 17
   at rest in state 0
 < r 1 1
@@ -182,7 +182,7 @@ mod tests {
 ";
 
     #[test]
-    fn the_flag_listing_of_document_01() {
+    fn the_flag_listing() {
         let text = on_flag(LISTING.as_bytes());
         let rest = text.strip_prefix(TASK_0_SETS).expect("lines 1 to 3");
         let rest = rest.strip_prefix(TASK_1_READS).expect("lines 4 to 7");
@@ -190,7 +190,7 @@ mod tests {
         let clears: Vec<&str> = rest.lines().collect();
         assert_eq!((clears.len(), clears[0]), (17, "> d 1"));
         let applied = "  task 1  step   6  Apply 1           swap   head            \
-                       0000000000000102 -> 0000000002010000  state 0, response 1 for task 1";
+                       0000000000000102 -> 0000000002010000    state 0, response 1 for task 1";
         assert_eq!(clears[6], applied);
         assert_eq!(on_flag(LISTING.trim_end().as_bytes()), text);
     }

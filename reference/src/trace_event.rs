@@ -86,7 +86,7 @@ impl Step {
     fn line(&self) -> String {
         let cell = self.access.cell;
         format!(
-            "task {}  step {:>3}  {:<16}  {:<5}  {:<14}  {:<36}  {}",
+            "task {}  step {:>3}  {:<16}  {:<5}  {:<14}  {:<38}  {}",
             self.task,
             self.number,
             phase_name(self.phase),
@@ -258,7 +258,7 @@ mod tests {
     #[test]
     fn a_swap_that_leaves_the_same_word_is_still_made() {
         let expected = "task 7  step  10  ClearExit         swap   head            \
-                        0000000000000001 -> 0000000000000001  state 0, marked by 0";
+                        0000000000000001 -> 0000000000000001    state 0, marked by 0";
         assert_eq!(swap_of_head(10, 1, true).line(), expected);
     }
 
