@@ -1,0 +1,220 @@
+//! The bench's lines served by the library, and what happened at each.
+
+use drive_object::{begin, start, step, Progress, Refusal, Shape, Task};
+
+use crate::lines::{self, Command};
+use crate::object::Object;
+use crate::phase::{self, planned, Access, Planned};
+use crate::refused;
+use crate::word;
+
+/// An accepted step.
+pub struct Step {
+    pub task: usize,
+    /// Own steps since begin, this one counted.
+    pub count: u32,
+    pub planned: Planned,
+    pub before: u64,
+    pub after: u64,
+}
+
+impl Step {
+    /// Whether it is a swap that found another word than the one compared with.
+    pub fn failed(&self) -> bool {
+        self.planned.purpose.access() == Access::Swap && self.before != self.planned.compared
+    }
+}
+
+/// What a line brings about, event by event.
+pub enum Event {
+    Started {
+        tasks: usize,
+    },
+    Begun {
+        task: usize,
+        operation: usize,
+        changing: bool,
+    },
+    Stepped(Step),
+    Ended {
+        task: usize,
+        operation: usize,
+        response: u16,
+        steps: u32,
+    },
+    /// A point of rest is reached, with the state in the head.
+    Rest {
+        state: u64,
+    },
+    Printed(Vec<u64>),
+    Refused(Refusal),
+    /// The line itself is refused.
+    Unknown,
+}
+
+/// A line with its events and the line that the bench prints for it.
+pub struct Served<'a> {
+    pub line: &'a [u8],
+    pub events: Vec<Event>,
+    pub printed: Option<String>,
+}
+
+/// A whole session: the table's shape, and every line served.
+pub struct Session<'a> {
+    pub shape: Shape,
+    pub served: Vec<Served<'a>>,
+}
+
+/// Serves all lines of an input, or says why the table isn't served.
+pub fn serve<'a>(file: &[u8], input: &'a [u8]) -> Result<Session<'a>, String> {
+    let shape = Object::of(file)?.shape;
+    let mut run = None;
+    let served = lines::cut(input)
+        .map(|line| serve_line(file, shape, &mut run, line))
+        .collect();
+    Ok(Session { shape, served })
+}
+
+fn serve_line<'a>(file: &[u8], shape: Shape, run: &mut Option<Run>, line: &'a [u8]) -> Served<'a> {
+    let mut events = Vec::new();
+    let printed = match (lines::command(line), run.as_mut()) {
+        (Some(Command::Start(tasks)), _) => match Run::start(file, tasks) {
+            Ok(started) => {
+                let state = word::state(started.cells[0]);
+                *run = Some(started);
+                events.extend([Event::Started { tasks }, Event::Rest { state }]);
+                Some(format!("n {tasks} {} {}", shape.states, shape.operations))
+            }
+            Err(refusal) => refuse(&mut events, refusal),
+        },
+        (Some(command), Some(run)) => run.serve(file, command, &mut events),
+        _ => {
+            events.push(Event::Unknown);
+            Some(format!("x {}", refused::LINE_NUMBER))
+        }
+    };
+    Served {
+        line,
+        events,
+        printed,
+    }
+}
+
+fn refuse(events: &mut Vec<Event>, refusal: Refusal) -> Option<String> {
+    events.push(Event::Refused(refusal));
+    Some(format!("x {}", refusal.number()))
+}
+
+/// What the library is lent, and which operations are pending by the calls and their answers.
+struct Run {
+    cells: Vec<u64>,
+    row: Vec<Task>,
+    /// For each task its pending operation, and whether it is changing.
+    pending: Vec<Option<(usize, bool)>>,
+}
+
+impl Run {
+    fn start(file: &[u8], tasks: usize) -> Result<Run, Refusal> {
+        let mut cells = vec![0; tasks + 1];
+        let mut row = vec![Task::default(); tasks];
+        start(file, &mut cells, &mut row)?;
+        Ok(Run {
+            cells,
+            row,
+            pending: vec![None; tasks],
+        })
+    }
+
+    /// Serves a line other than `n`; the line that the bench prints.
+    fn serve(&mut self, file: &[u8], command: Command, events: &mut Vec<Event>) -> Option<String> {
+        let served = match command {
+            Command::Begin(task, operation) => self.begin(file, task, operation, events).map(|()| None),
+            Command::Step(task) => self.step(file, task, events),
+            Command::Finish(task) => self.finish(file, task, events),
+            _ => {
+                events.push(Event::Printed(self.cells.clone()));
+                Ok(Some(self.cells_line()))
+            }
+        };
+        served.unwrap_or_else(|refusal| refuse(events, refusal))
+    }
+
+    fn begin(
+        &mut self,
+        file: &[u8],
+        task: usize,
+        operation: usize,
+        events: &mut Vec<Event>,
+    ) -> Result<(), Refusal> {
+        begin(file, &mut self.row, task, operation)?;
+        let changing = self.row[task].phase == phase::ANNOUNCE;
+        self.pending[task] = Some((operation, changing));
+        events.push(Event::Begun {
+            task,
+            operation,
+            changing,
+        });
+        Ok(())
+    }
+
+    /// One step; the bench's line if it ends the operation.
+    fn step(&mut self, file: &[u8], task: usize, events: &mut Vec<Event>) -> Result<Option<String>, Refusal> {
+        let record = self.row.get(task).copied().unwrap_or_default();
+        let cells = self.cells.clone();
+        let progress = step(file, &mut self.cells, &mut self.row, task)?;
+        let planned = planned(task, &record).expect("the record of an accepted step has a phase");
+        let (before, after) = (cells[planned.cell], self.cells[planned.cell]);
+        events.push(Event::Stepped(Step {
+            task,
+            count: record.steps + 1,
+            planned,
+            before,
+            after,
+        }));
+        match progress {
+            Progress::Running => Ok(None),
+            Progress::Ended { response, steps } => {
+                self.end(task, response, steps, events);
+                Ok(Some(format!("r {task} {response}")))
+            }
+        }
+    }
+
+    fn end(&mut self, task: usize, response: u16, steps: u32, events: &mut Vec<Event>) {
+        let (operation, changing) = self.pending[task]
+            .take()
+            .expect("an operation that ends was begun");
+        events.push(Event::Ended {
+            task,
+            operation,
+            response,
+            steps,
+        });
+        let resting = !self.pending.iter().flatten().any(|(_, changing)| *changing);
+        if changing && resting {
+            events.push(Event::Rest {
+                state: word::state(self.cells[0]),
+            });
+        }
+    }
+
+    /// Steps until the operation ends, which the library's theorem says it does.
+    fn finish(
+        &mut self,
+        file: &[u8],
+        task: usize,
+        events: &mut Vec<Event>,
+    ) -> Result<Option<String>, Refusal> {
+        loop {
+            if let Some(line) = self.step(file, task, events)? {
+                return Ok(Some(line));
+            }
+        }
+    }
+
+    fn cells_line(&self) -> String {
+        let words: String = self.cells.iter().map(|word| format!(" {word:016x}")).collect();
+        let marks: u32 = self.cells.iter().map(|word| word::marks(*word)).sum();
+        format!("m{words} {marks}")
+    }
+}

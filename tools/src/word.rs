@@ -1,0 +1,68 @@
+//! What the word of a cell says.
+
+use std::fmt::Write;
+
+/// A field of a cell: `width` bits from bit `low` up.
+fn field(word: u64, low: u32, width: u32) -> u64 {
+    word >> low & ((1 << width) - 1)
+}
+
+/// The name of a cell: cell 0 is the head, cell i + 1 the announcement of task i.
+pub fn cell_name(cell: usize) -> String {
+    match cell {
+        0 => "head".into(),
+        _ => format!("announcement {}", cell - 1),
+    }
+}
+
+/// The state in a head.
+pub fn state(head: u64) -> u64 {
+    field(head, 8, 8)
+}
+
+/// What an announcement holds.
+#[derive(Clone, Copy, PartialEq, Eq, Debug)]
+pub enum Content {
+    Empty,
+    Operation(u64),
+    Response(u64),
+}
+
+pub fn content(announcement: u64) -> Content {
+    let payload = field(announcement, 16, 8);
+    match field(announcement, 8, 2) {
+        1 => Content::Operation(payload),
+        2 => Content::Response(payload),
+        _ => Content::Empty,
+    }
+}
+
+/// The holder of a head with the response that it is due.
+pub fn held(head: u64) -> Option<(u64, u64)> {
+    let holder = field(head, 24, 4).checked_sub(1)?;
+    Some((holder, field(head, 16, 8)))
+}
+
+/// The marks of a cell in a library's run, where bits that have no name are 0.
+pub fn marks(word: u64) -> u32 {
+    field(word, 0, 8).count_ones()
+}
+
+/// The word of a cell in words.
+pub fn meaning(cell: usize, word: u64) -> String {
+    let mut text = match (cell, content(word)) {
+        (0, _) => format!("state {}", state(word)),
+        (_, Content::Empty) => "empty".into(),
+        (_, Content::Operation(operation)) => format!("operation {operation}"),
+        (_, Content::Response(response)) => format!("response {response}"),
+    };
+    if let (0, Some((holder, response))) = (cell, held(word)) {
+        write!(text, ", response {response} for task {holder}").expect("a string takes every text");
+    }
+    if marks(word) > 0 {
+        text.push_str(", marked by");
+        let marked = (0..8).filter(|task| field(word, *task, 1) == 1);
+        marked.for_each(|task| write!(text, " {task}").expect("a string takes every text"));
+    }
+    text
+}

@@ -1,0 +1,51 @@
+//! Words that the program takes and words that it doesn't.
+
+mod program;
+
+use program::drive;
+
+const COMMANDS: [&str; 6] = ["check", "show", "table", "run", "picture", "ceiling"];
+
+#[test]
+fn help_names_every_command() {
+    let help = drive(&["--help"], b"").text();
+    for command in COMMANDS {
+        assert!(help.contains(&format!("drive {command} ")));
+        assert_eq!(drive(&[command, "--help"], b"").text(), help);
+    }
+}
+
+#[test]
+fn other_words_are_refused() {
+    let hint = "; drive --help lists the commands\n";
+    assert_eq!(
+        drive(&[], b"").failure(),
+        format!("drive: no command is given{hint}")
+    );
+    assert_eq!(
+        drive(&["chek"], b"").failure(),
+        format!("drive: there is no command chek{hint}")
+    );
+    for command in COMMANDS {
+        for words in [vec![command], vec![command, "a", "b", "c"]] {
+            assert_eq!(
+                drive(&words, b"").failure(),
+                format!("drive: {command} takes other words{hint}")
+            );
+        }
+    }
+}
+
+#[test]
+fn a_file_that_cant_be_read_is_named() {
+    for words in [
+        vec!["check", "no/table"],
+        vec!["show", "no/table"],
+        vec!["table", "no/table"],
+        vec!["run", "no/table", "-"],
+        vec!["picture", "no/table", "-"],
+    ] {
+        let said = drive(&words, b"").failure();
+        assert!(said.starts_with("drive: no/table can't be read: "), "{said}");
+    }
+}

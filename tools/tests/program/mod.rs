@@ -1,0 +1,47 @@
+//! Runs the program `drive`, as its user does.
+
+use std::io::Write;
+use std::process::{Command, Stdio};
+
+/// Exit status and output of a run.
+pub struct Ran {
+    pub status: i32,
+    pub out: Vec<u8>,
+    pub err: String,
+}
+
+impl Ran {
+    /// What a command that succeeds prints.
+    pub fn text(self) -> String {
+        assert_eq!((self.status, self.err.as_str()), (0, ""));
+        String::from_utf8(self.out).expect("text")
+    }
+
+    /// What a command that fails says; it prints nothing else.
+    pub fn failure(self) -> String {
+        assert_eq!((self.status, self.out.as_slice()), (1, [].as_slice()));
+        self.err
+    }
+}
+
+/// Runs `drive` with these words and this standard input.
+pub fn drive(words: &[&str], input: &[u8]) -> Ran {
+    let mut child = Command::new(env!("CARGO_BIN_EXE_drive"))
+        .args(words)
+        .stdin(Stdio::piped())
+        .stdout(Stdio::piped())
+        .stderr(Stdio::piped())
+        .spawn()
+        .expect("the program starts");
+    let mut stdin = child.stdin.take().expect("a pipe");
+    let input = input.to_vec();
+    // A program that fails early doesn't read its input: the pipe is closed then.
+    let writer = std::thread::spawn(move || stdin.write_all(&input).ok());
+    let output = child.wait_with_output().expect("the program ends");
+    writer.join().expect("the writer ends");
+    Ran {
+        status: output.status.code().expect("an exit status"),
+        out: output.stdout,
+        err: String::from_utf8(output.stderr).expect("text"),
+    }
+}

@@ -1,0 +1,221 @@
+//! Object files and their texts, compared with the second program.
+
+mod program;
+
+use program::drive;
+use reference::random::Random;
+use reference::table::Table;
+use reference::table_cases::{fixed_cases, random_case, random_table};
+use reference::table_file::TableFile;
+use reference::trace_event::refused;
+
+const RANDOM_CASES: u64 = 200;
+const RANDOM_TEXTS: u64 = 200;
+
+fn files() -> Vec<Vec<u8>> {
+    let cases = fixed_cases()
+        .into_iter()
+        .chain((0..RANDOM_CASES).map(random_case));
+    cases.map(|case| case.file).collect()
+}
+
+/// What check prints for a table without names.
+fn report(table: &Table, text: usize) -> String {
+    let (states, operations, start) = (table.states, table.operations, table.start);
+    let mut report = format!("states       {states}\noperations   {operations}\nstart state  {start}\n");
+    report += &format!("free text    {text} bytes\n\n");
+    let width = (operations - 1).to_string().len();
+    for operation in 0..operations {
+        let kind = if table.is_changing(operation) {
+            "changing"
+        } else {
+            "reading"
+        };
+        report += &format!("operation {operation:<width$}  {kind}\n");
+    }
+    report
+}
+
+#[test]
+fn check_says_what_the_second_program_says() {
+    let (mut served, mut refusals) = (0, std::collections::BTreeSet::new());
+    for file in files() {
+        let ran = drive(&["check", "-"], &file);
+        match Table::check(&file) {
+            Ok(table) => {
+                let text = file.len() - 16 - 2 * table.states * table.operations;
+                assert_eq!(ran.text(), report(&table, text));
+                served += 1;
+            }
+            Err(refusal) => {
+                assert_eq!(
+                    ran.failure(),
+                    format!("drive: the table is {}\n", refused(refusal))
+                );
+                refusals.insert(refusal.number());
+            }
+        }
+    }
+    assert!(served > 50);
+    assert_eq!(Vec::from_iter(refusals), [1, 2, 3, 4]);
+}
+
+/// What is shown of a file reads back to its bytes.
+fn reads_back(file: &[u8]) {
+    let shown = drive(&["show", "-"], file).text();
+    let read = drive(&["table", "-"], shown.as_bytes());
+    assert_eq!((read.status, read.err.as_str()), (0, ""), "{shown}");
+    assert_eq!(read.out, file, "{shown}");
+}
+
+#[test]
+fn what_is_shown_reads_back_to_the_same_bytes() {
+    for file in files() {
+        match Table::check(&file) {
+            Ok(_) => reads_back(&file),
+            Err(refusal) => {
+                let said = drive(&["show", "-"], &file).failure();
+                assert_eq!(said, format!("drive: the table is {}\n", refused(refusal)));
+            }
+        }
+    }
+}
+
+/// Bytes and pieces that a text form could lose.
+const PIECES: [&[u8]; 16] = [
+    b"\n",
+    b"\n\n",
+    b" ",
+    b"\\",
+    b"\\\\",
+    b"\\x41",
+    b"\r",
+    b"\r\n",
+    b"\t",
+    b"#",
+    b"|",
+    b"->",
+    "\u{e9}".as_bytes(),
+    b"\xff",
+    b"\x00",
+    b"states: a b\n",
+];
+
+#[test]
+fn every_free_text_reads_back_to_the_same_bytes() {
+    for seed in 0..RANDOM_TEXTS {
+        let mut random = Random::new(seed);
+        let mut text = Vec::new();
+        for _ in 0..random.below(12) {
+            match random.below(4) {
+                0 => text.push(random.byte()),
+                _ => text.extend(*random.pick(&PIECES)),
+            }
+        }
+        reads_back(&random_table(&mut random).with_text(text).to_bytes());
+    }
+}
+
+#[test]
+fn the_flag_is_shown_by_numbers() {
+    let flag = TableFile::flag().to_bytes();
+    let shown = "states 2\noperations 3\nstart 0\n\n# state operation -> next-state response\n\
+                 0  0  ->  0  0\n0  1  ->  1  0\n0  2  ->  0  0\n\
+                 1  0  ->  1  1\n1  1  ->  1  1\n1  2  ->  0  1\n";
+    assert_eq!(drive(&["show", "-"], &flag).text(), shown);
+}
+
+const NAMED_FLAG: &str = "examples/flag.txt";
+
+/// The text of the example but for its comments.
+fn without_comments(text: &str) -> String {
+    let lines = text.lines().filter(|line| !line.starts_with("# The"));
+    lines.map(|line| format!("{line}\n")).collect()
+}
+
+#[test]
+fn the_example_has_its_names() {
+    let text = std::fs::read_to_string(NAMED_FLAG).expect("the example");
+    let free: Vec<&str> = text.lines().filter_map(|line| line.strip_prefix("| ")).collect();
+    let expected = TableFile::flag()
+        .with_text((free.join("\n") + "\n").into_bytes())
+        .to_bytes();
+    let file = drive(&["table", NAMED_FLAG], b"").out;
+    assert_eq!(file, expected);
+    assert_eq!(drive(&["show", "-"], &file).text(), without_comments(&text));
+    let checked = drive(&["check", "-"], &file).text();
+    assert!(checked.contains("start state  down\n") && checked.contains("operation set    changing\n"));
+}
+
+/// A text of an object with one state and one operation, and lines besides.
+fn small(lines: &str) -> String {
+    format!("states 1\noperations 1\nstart 0\n0 0 -> 0 255\n{lines}")
+}
+
+#[test]
+fn a_wrong_text_is_refused_with_its_line() {
+    let form = "a line is '| text', 'states N', 'operations N', 'start STATE', \
+                'STATE OPERATION -> STATE RESPONSE', or '# comment'";
+    let names = "they are 0 to 0; names are listed in the text, as '| states: NAME NAME', one for each";
+    let dimensions = refused(reference::refusal::Refusal::Dimensions);
+    let length = refused(reference::refusal::Refusal::Length);
+    let long = small(&format!("| {}\n", "x".repeat(4_096)));
+    for (text, reason) in [
+        (small("what\n"), format!("line 5: {form}")),
+        (small("states 2\n"), "line 5: line 1 has said this".into()),
+        (
+            small("0 0 -> 0 0\n"),
+            "line 5: state 0 has operation 0 twice".into(),
+        ),
+        (small("1 0 -> 0 0\n"), format!("line 5: 1 is no state: {names}")),
+        (small("0 0 -> up 0\n"), format!("line 5: up is no state: {names}")),
+        (
+            small("0 0 -> 0 256\n"),
+            "line 5: 256 is no response: responses are numbers from 0 to 255".into(),
+        ),
+        (
+            small("| \\q\n"),
+            "line 5: a backslash stands before \\, before xNN, or at the end of a line".into(),
+        ),
+        (
+            small("| states: up\n1 0 -> 0 0\n"),
+            "line 6: 1 is no state: they are 0 to 0, or go by their names".into(),
+        ),
+        (long, format!("the table is {length}")),
+        (
+            "operations 1\nstart 0\n".into(),
+            "there is no line 'states N'".into(),
+        ),
+        (
+            "states 1\nstart 0\n".into(),
+            "there is no line 'operations N'".into(),
+        ),
+        (
+            "states 1\noperations 1\n".into(),
+            "there is no line 'start STATE'".into(),
+        ),
+        (
+            "states x\noperations 1\nstart 0\n".into(),
+            "line 1: x is no number from 0 to 65535".into(),
+        ),
+        ("states 257\noperations 1\nstart 0\n".into(), dimensions.clone()),
+        ("states 1\noperations 0\nstart 0\n".into(), dimensions),
+        (
+            "states 2\noperations 1\nstart 0\n1 0 -> 0 0\n".into(),
+            "there is no entry for operation 0 in state 0".into(),
+        ),
+        (
+            "states 1\noperations 1\nstart 1\n0 0 -> 0 0\n".into(),
+            format!("line 3: 1 is no state: {names}"),
+        ),
+    ] {
+        assert_eq!(
+            drive(&["table", "-"], text.as_bytes()).failure(),
+            format!("drive: {reason}\n")
+        );
+    }
+    assert_eq!(
+        drive(&["table", "-"], b"\xff").failure(),
+        "drive: the text is not UTF-8\n"
+    );
+}
