@@ -1,4 +1,4 @@
-//! The plain book of document 01, who is entered before which call, and its relation to the cells and records.
+//! The plain book of docs/RUNS.md, who is entered before which call, and its relation to the cells and records.
 
 use crate::cells::Announcement;
 use crate::configuration::{Call, CallAnswer, Configuration};

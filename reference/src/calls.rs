@@ -1,4 +1,4 @@
-//! Start, begin and step with their refusals, each tested in the order of document 01.
+//! Start, begin and step with their refusals, each tested in the order of docs/FORMATS.md.
 //! A table that was read has passed 1 to 3, so begin and step test from 5 on.
 
 use crate::ceiling::ceiling;

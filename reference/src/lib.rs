@@ -1,4 +1,5 @@
-//! Document 01 written again, apart from the proved library, to compare the two.
+//! The customer's rules, which docs/FORMATS.md and docs/RUNS.md give, written a second time, apart from the proved
+//! library, to compare the two.
 
 pub mod bench;
 mod book;

@@ -1,4 +1,4 @@
-//! The causes for which a call is not served, with document 01's numbers.
+//! The causes for which a call is not served, with the numbers of docs/FORMATS.md.
 
 #[derive(Clone, Copy, Debug, PartialEq, Eq)]
 pub enum Refusal {

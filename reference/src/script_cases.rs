@@ -15,10 +15,10 @@ pub struct Script {
     pub piece: Option<usize>,
 }
 
-/// The input of the listing in document 01.
+/// The input of the flag listing in docs/FORMATS.md.
 pub const LISTING: &str = "n 2\nb 0 1\nd 0\nb 1 0\ns 1\nb 1 2\nm\nd 1\nm\n";
 
-/// The cases of document 01 and the forms of lines, mostly over the flag object.
+/// The cases of docs/FORMATS.md and the forms of lines, mostly over the flag object.
 pub fn fixed_scripts() -> Vec<Script> {
     let flag = TableFile::flag().to_bytes();
     let mut scripts = table_scripts();

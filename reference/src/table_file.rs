@@ -54,7 +54,7 @@ impl TableFile {
         self
     }
 
-    /// The flag object of document 01: 0 reads, 1 sets, 2 clears.
+    /// The flag object of docs/FORMATS.md: 0 reads, 1 sets, 2 clears.
     pub fn flag() -> TableFile {
         TableFile::plain(2, 3, 0, &[(0, 0), (1, 0), (0, 0), (1, 1), (1, 1), (0, 1)])
     }

@@ -1,4 +1,4 @@
--- Document 01, "The bench": what a line of input means.
+-- docs/FORMATS.md, "The bench": what a line of input means.
 use mathlib.Core.Bool.{Bool, _&&_, cond}
 use mathlib.Core.List.{List, [], _∷_}
 use Prim.Native.Nat.{ℕ, _+_, _-_, _*_}

@@ -1,4 +1,4 @@
--- Document 01, "The bench": the lines that it prints.
+-- docs/FORMATS.md, "The bench": the lines that it prints.
 use mathlib.Core.Bool.{cond}
 use mathlib.Core.List.{List, [], _∷_, _++_}
 use mathlib.Core.Path.{_≡_}

@@ -1,5 +1,5 @@
--- Document 01, "The bench": how a command is served. The bench holds nine cells and nine records; a run of n tasks has the
--- first n + 1 and the first n of them, and before an accepted start n is 0.
+-- docs/FORMATS.md, "The bench": how a command is served. The bench holds nine cells and nine records; a run of n tasks has
+-- the first n + 1 and the first n of them, and before an accepted start n is 0.
 use mathlib.Core.Path.{_≡_}
 use mathlib.Core.Bool.{Bool, true, false, not, _&&_, cond}
 use mathlib.Core.List.{List, _++_}

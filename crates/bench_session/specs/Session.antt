@@ -1,4 +1,4 @@
--- Document 01, "The bench": what the bench prints for a table file and an input, line by line, and the same byte by byte.
+-- docs/FORMATS.md, "The bench": what it prints for a table file and an input, line by line, and the same byte by byte.
 use mathlib.Core.Path.{_≡_}
 use mathlib.Core.Bool.{Bool, true, false, cond}
 use mathlib.Core.Logic.{_⊎_}

@@ -1,4 +1,4 @@
--- Document 01, "Runs, steps and records": the ceiling of own steps, held as a table.
+-- docs/RUNS.md, "Runs, steps and records": the ceiling of own steps, held as a table.
 use mathlib.Core.Bool.{_&&_, cond}
 use mathlib.Core.List.{List, [], _∷_}
 use Prim.Native.Nat.{ℕ, _-_}

@@ -1,4 +1,4 @@
--- Document 01, "The bench": how many marks are set in all cells together.
+-- docs/FORMATS.md, "The bench": how many marks are set in all cells together.
 use mathlib.Core.Bool.{cond}
 use mathlib.Core.List.{List, [], _∷_}
 use Prim.Native.Nat.{ℕ, zero, suc, _+_}

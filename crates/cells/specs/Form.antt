@@ -1,4 +1,4 @@
--- Document 01, "The cells": which words are in form, with s states, m operations and n tasks.
+-- docs/FORMATS.md, "The cells": which words are in form, with s states, m operations and n tasks.
 use mathlib.Core.Bool.{Bool, true, _&&_, cond}
 use mathlib.Core.List.{List, [], _∷_}
 use Prim.Native.Nat.{ℕ, _^_}

@@ -1,4 +1,4 @@
--- Document 01, "The cells": the image of a state, which the cells hold at rest.
+-- docs/FORMATS.md, "The cells": the image of a state, which the cells hold at rest.
 use mathlib.Core.List.{List, [], _∷_}
 use Prim.Native.Nat.{ℕ, zero, suc, _*_, _^_}
 use lib.ListN.{replicate}

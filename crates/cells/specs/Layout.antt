@@ -1,4 +1,4 @@
--- Document 01, "The cells": the fields of a head and of an announcement.
+-- docs/FORMATS.md, "The cells": the fields of a head and of an announcement.
 use mathlib.Core.Bool.{Bool, false, cond}
 use mathlib.Core.List.{List, [], _∷_}
 use Prim.Native.Nat.{ℕ, _+_, _-_, _/_, _%_, _^_}

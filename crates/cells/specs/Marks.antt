@@ -1,4 +1,4 @@
--- Document 01, "The cells": marks are bits of a word, bit i for task i.
+-- docs/FORMATS.md, "The cells": marks are bits of a word, bit i for task i.
 use mathlib.Core.Bool.{Bool, cond}
 use Prim.Native.Nat.{ℕ, _+_, _-_, _/_, _%_, _^_}
 use lib.Dec.{eqb}

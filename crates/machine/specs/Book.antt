@@ -1,4 +1,4 @@
--- The plain book of document 01. It is fed calls and their answers, and looks at no cell and no record.
+-- docs/RUNS.md, "The plain book". It is fed calls and their answers, and looks at no cell and no record.
 use mathlib.Core.Path.{_≡_}
 use mathlib.Core.List.{List, [], _∷_, _++_}
 use Prim.Native.Nat.{ℕ, suc, _<_}

@@ -1,4 +1,4 @@
--- The calls of a run with what they answer, as document 01 writes them: numbers and values.
+-- The calls of a run with what they answer, as docs/RUNS.md writes them: numbers and values.
 use Prim.Native.Nat.{ℕ}
 
 -- A call of begin or step, with any numbers.

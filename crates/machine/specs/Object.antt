@@ -1,4 +1,4 @@
--- The object that the tasks share, as far as the machine needs it: document 01's table without its bytes.
+-- The object that the tasks share, as far as the machine needs it: docs/FORMATS.md, "The object table", without its bytes.
 use mathlib.Core.Bool.{Bool}
 use Prim.Native.Nat.{ℕ}
 

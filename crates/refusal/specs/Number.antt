@@ -1,10 +1,10 @@
--- Document 01, "When a call is not served": the number of each cause, and what an answer says on paper.
+-- docs/FORMATS.md, "When a call is not served": the number of each cause, and what an answer says in numbers.
 use mathlib.Core.List.{List, []}
 use Prim.Native.Nat.{ℕ}
 use Rattle.refusal.specs.declared.Refusal.{Refusal}
 use Rattle.refusal.specs.declared.Refusal.the-variants.{File, Dimensions, Length, NextState, Row, Cells, Task, Operation, Pending, Idle, Record, Cell, Line}
 
--- The numbers follow the order of the document's table.
+-- The numbers follow the order of the page's table.
 abbrev pub numberOf : Refusal → ℕ
 numberOf File = 1
 numberOf Dimensions = 2

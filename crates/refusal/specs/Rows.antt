@@ -1,4 +1,4 @@
--- Document 01's table of refusals, row by row: each cause beside its number.
+-- docs/FORMATS.md, "When a call is not served": the table of refusals row by row, each cause beside its number.
 use mathlib.Core.List.{List, [], _∷_}
 use Prim.Native.Nat.{ℕ}
 use Rattle.refusal.specs.declared.Refusal.{Refusal}

@@ -1,4 +1,4 @@
-// The causes for which a call is not served, and document 01's number for each.
+// The causes for which a call is not served, and the number of each: docs/FORMATS.md, "When a call is not served".
 ghost use mathlib.Core.Path.{_≡_};
 ghost use Rattle.refusal.specs.Number.{numberOf};
 

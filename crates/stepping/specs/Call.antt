@@ -1,5 +1,5 @@
--- The calls of document 01 on lists of words and records: the tests in their order, the first cause that holds, what is
--- left and what is answered.
+-- The calls of docs/RUNS.md on lists of words and records: the tests in their order (docs/FORMATS.md, "When a call is not
+-- served"), the first cause that holds, what is left and what is answered.
 use mathlib.Core.Bool.{true, false, cond}
 use mathlib.Core.List.{List, [], _∷_, _++_}
 use Prim.Native.Nat.{ℕ, zero, suc, _+_}
@@ -40,7 +40,7 @@ use Rattle.records.specs.Record.{idleTask, readRecord}
 use Rattle.transition.specs.Transition.{planOf, usedInRange}
 use Rattle.stepping.specs.Step.{touched, cellInForm, TaskOutcome, served}
 
--- ---- What the answers say: document 01's number and values for each case
+-- ---- What the answers say: the number and the values of each case
 
 abbrev pub startSaid : StartAnswer → Said
 startSaid start.Started = accepted []

@@ -1,4 +1,4 @@
--- Document 01, "Cases": every marked case, as one table about the definitions. Those of the object file stand in the crate table.
+-- docs/FORMATS.md, "Cases": every marked case, as one table about the definitions. Those of the file stand in the crate table.
 use Prim.Native.Nat.{ℕ}
 use mathlib.Core.Bool.{Bool, cond}
 use mathlib.Core.List.{List, [], _∷_, _++_}

@@ -128,7 +128,7 @@ StartOpens file cells row =
 abbrev pub DemandsWithin : ℕ → {file : List ℕ} {n q : ℕ} {s : Store} → Opening file n q s → Type 0
 DemandsWithin bound {n = n} {q = q} o = Demand (objectIn o) n q bound (image n) (shown o)
 
--- With the ceiling of document 01, 1,000·n³.
+-- With the ceiling of docs/RUNS.md, 1,000·n³.
 abbrev pub Demands : {file : List ℕ} {n q : ℕ} {s : Store} → Opening file n q s → Type 0
 Demands {n = n} o = DemandsWithin (1000 * (n * n * n)) o
 

@@ -1,5 +1,5 @@
--- Document 01, "Cases": the marked cases about the object file. The table of all marked cases, which needs later definitions,
--- is that of the crate stepping.
+-- docs/FORMATS.md, "Cases": the marked cases about the object file. The table of all marked cases, which needs later
+-- definitions, is that of the crate stepping.
 use Prim.Native.Nat.{ℕ, _*_, _/_, _%_}
 use mathlib.Core.Bool.{cond}
 use mathlib.Core.List.{List, [], _∷_, _++_}
@@ -34,7 +34,7 @@ number file = checkSaid (checkOf file) .number
 unfoldable pub changes : List ℕ → ℕ → ℕ
 changes file operation = cond (changing file (shapeOf file) operation) 1 0
 
--- A case: what the definitions give, and what the document says.
+-- A case: what the definitions give, and what the page says.
 pub record Case : Type 0 where
   pub given : ℕ
   pub said : ℕ

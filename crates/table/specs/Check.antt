@@ -1,4 +1,4 @@
--- Document 01, "When a call is not served": what the test of a whole table answers, and what the answer says.
+-- docs/FORMATS.md, "When a call is not served": what the test of a whole table answers, and what the answer says.
 use mathlib.Core.Bool.{cond}
 use mathlib.Core.List.{List, [], _∷_}
 use Prim.Native.Nat.{ℕ}

@@ -1,4 +1,4 @@
--- Document 01, "The object table": the entries, which next states are in range, and which operations are changing.
+-- docs/FORMATS.md, "The object table": the entries, which next states are in range, and which operations are changing.
 use mathlib.Core.Bool.{Bool, not}
 use mathlib.Core.List.{List}
 use Prim.Native.Nat.{ℕ, _+_, _*_}

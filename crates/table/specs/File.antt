@@ -1,4 +1,4 @@
--- Document 01, "The object table": the file's bytes, its mark and its trailer.
+-- docs/FORMATS.md, "The object table": the file's bytes, its mark and its trailer.
 use mathlib.Core.Bool.{Bool, _&&_}
 use mathlib.Core.List.{List, [], _∷_}
 use Prim.Native.Nat.{ℕ, _+_, _-_, _*_, _<_}

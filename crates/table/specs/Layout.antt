@@ -1,4 +1,4 @@
--- Document 01, "When a call is not served": causes 1 to 3, which concern the file's length, its mark and its trailer.
+-- docs/FORMATS.md, "When a call is not served": causes 1 to 3, which concern the file's length, its mark and its trailer.
 use mathlib.Core.Bool.{Bool, cond, _&&_}
 use mathlib.Core.List.{List}
 use Prim.Native.Nat.{ℕ, _+_, _*_}

@@ -1,4 +1,4 @@
-// The object file: its trailer, its dimensions and its entries, read and tested as document 01 defines them.
+// The object file: its trailer, its dimensions and its entries, read and tested as docs/FORMATS.md says.
 //
 // Every function is total: a byte past the file's end reads as 0, and no number wraps for any argument.
 use refusal::Refusal;

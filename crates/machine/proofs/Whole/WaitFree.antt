@@ -27,7 +27,7 @@ use Rattle.machine.proofs.Potential.Beginning.{begunTask, potential-beg
 
 -- ---- The bound
 
--- The bound is below the ceiling of document 01, for every number of tasks.
+-- The bound is below the ceiling of docs/RUNS.md, for every number of tasks.
 pub bound-ceiling : (n : ℕ) → 1 ≤ n → bound n ≤ 1000 * (n * n * n)
 bound-ceiling n h =
     let s = n * n in
