@@ -164,7 +164,7 @@ mod tests {
     }
 
     #[test]
-    fn the_flag_listing_of_document_01() {
+    fn the_flag_listing() {
         let input = "n 2\nb 0 1\nd 0\nb 1 0\ns 1\nb 1 2\nm\nd 1\nm\n";
         let expected = "n 2 2 3
 r 0 0

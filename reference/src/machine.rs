@@ -360,7 +360,7 @@ mod tests {
     }
 
     #[test]
-    fn accesses_give_back_what_document_01_says() {
+    fn accesses_give_back_what_they_should() {
         let mut cells = [5, 6];
         let read = perform(&mut cells, on_head(Action::Read));
         let written = perform(&mut cells, on_announcement(0, Action::Write(7)));
