@@ -60,9 +60,11 @@ fn check_says_what_the_second_program_says() {
     assert_eq!(Vec::from_iter(refusals), [1, 2, 3, 4]);
 }
 
-/// What is shown of a file reads back to its bytes.
+/// What is shown of a file reads back to its bytes, and has nothing that a reader or an editor would lose.
 fn reads_back(file: &[u8]) {
     let shown = drive(&["show", "-"], file).text();
+    let visible = |line: &str| !line.ends_with(' ') && !line.contains(char::is_control);
+    assert!(shown.split('\n').all(visible), "{shown}");
     let read = drive(&["table", "-"], shown.as_bytes());
     assert_eq!((read.status, read.err.as_str()), (0, ""), "{shown}");
     assert_eq!(read.out, file, "{shown}");
@@ -82,37 +84,56 @@ fn what_is_shown_reads_back_to_the_same_bytes() {
 }
 
 /// Bytes and pieces that a text form could lose.
-const PIECES: [&[u8]; 16] = [
-    b"\n",
-    b"\n\n",
-    b" ",
-    b"\\",
-    b"\\\\",
-    b"\\x41",
-    b"\r",
-    b"\r\n",
-    b"\t",
-    b"#",
-    b"|",
-    b"->",
-    "\u{e9}".as_bytes(),
-    b"\xff",
-    b"\x00",
-    b"states: a b\n",
+const PIECES: [&str; 17] = [
+    "\n", "\n\n", " ", " \n", "\\", "\\\\", "\\x41", "\r", "\r\n", "\t", "#", "|", "->", "\u{e9}", "\u{85}",
+    "\0", "\u{7f}",
 ];
+
+/// Lines of the text that name the states of the flag, and lines that don't.
+const NAMINGS: [&str; 7] = [
+    "states: up down\n",
+    "states: up up\n",
+    "states: 1 0\n",
+    "states: -> #\n",
+    "states: up\n",
+    "states: a b c\n",
+    "operations: x y z\n",
+];
+
+fn random_text(random: &mut Random) -> Vec<u8> {
+    let mut text = Vec::new();
+    for _ in 0..random.below(12) {
+        match random.below(4) {
+            0 => text.push(random.byte()),
+            1 => text.extend(random.pick(&NAMINGS).bytes()),
+            _ => text.extend(random.pick(&PIECES).bytes()),
+        }
+    }
+    text
+}
 
 #[test]
 fn every_free_text_reads_back_to_the_same_bytes() {
     for seed in 0..RANDOM_TEXTS {
         let mut random = Random::new(seed);
-        let mut text = Vec::new();
-        for _ in 0..random.below(12) {
-            match random.below(4) {
-                0 => text.push(random.byte()),
-                _ => text.extend(*random.pick(&PIECES)),
-            }
-        }
-        reads_back(&random_table(&mut random).with_text(text).to_bytes());
+        let table = match random.below(2) {
+            0 => TableFile::flag(),
+            _ => random_table(&mut random),
+        };
+        reads_back(&table.with_text(random_text(&mut random)).to_bytes());
+    }
+}
+
+#[test]
+fn only_a_full_list_of_different_names_names_the_states() {
+    for (naming, start) in NAMINGS.iter().zip(["up", "0", "0", "0", "0", "0", "0"]) {
+        let file = TableFile::flag().with_text(naming.as_bytes().to_vec()).to_bytes();
+        assert!(
+            drive(&["show", "-"], &file)
+                .text()
+                .contains(&format!("\nstart {start}\n")),
+            "{naming}"
+        );
     }
 }
 
