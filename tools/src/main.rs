@@ -4,6 +4,7 @@
 mod ceiling;
 mod chart;
 mod check;
+mod legend;
 mod lines;
 mod names;
 mod narrative;

@@ -1,9 +1,9 @@
 //! `drive picture`: the runs of an input as a timeline, a column for each accepted begin and step.
 
+use crate::legend::{self, draw_legend};
 use crate::names::Names;
 use crate::object::Object;
-use crate::phase::Purpose;
-use crate::picture_rows::{draw_legend, draw_row, rows, Labels, Row, LEGEND_HEIGHT, PICTURE_WIDTH};
+use crate::picture_rows::{draw_row, rows, Labels, Row, PICTURE_WIDTH};
 use crate::session::{serve, Event, Step};
 use crate::svg::{Anchor, Drawing};
 
@@ -53,7 +53,7 @@ pub fn timeline(file: &[u8], input: &[u8]) -> Result<String, String> {
         top = draw_run(&mut drawing, top, number, run, &labels);
     }
     draw_legend(&mut drawing, top);
-    Ok(drawing.file(PICTURE_WIDTH, top + LEGEND_HEIGHT))
+    Ok(drawing.file(PICTURE_WIDTH, top + legend::HEIGHT))
 }
 
 /// The rows of a run from `top` down; where the next thing may stand.
@@ -146,20 +146,5 @@ impl Run {
     /// Whether no changing operation is pending.
     fn rests(&mut self) -> bool {
         !self.pending().any(|operation| operation.changing)
-    }
-}
-
-/// Colour and name of what a step does.
-pub fn look(purpose: Purpose, failed: bool) -> (&'static str, &'static str) {
-    match purpose {
-        _ if failed => ("#d62728", "a swap that fails"),
-        Purpose::Read => ("#888888", "reads"),
-        Purpose::Announce => ("#ff7f0e", "announces its operation"),
-        Purpose::Link => ("#1f77b4", "links a cell"),
-        Purpose::Apply => ("#2ca02c", "applies an operation"),
-        Purpose::HandOver => ("#9467bd", "hands a response over"),
-        Purpose::Clear => ("#8c564b", "clears the head"),
-        Purpose::Release => ("#17becf", "releases a link"),
-        Purpose::Retract => ("#222222", "empties its announcement"),
     }
 }

@@ -2,18 +2,17 @@
 
 use std::ops::Range;
 
+use crate::legend::{draw_mark, CHANGING, FREE, READING, RESPONSE, REST, STOPPED, WAITING};
 use crate::names::Names;
 use crate::narrative::step_line;
-use crate::phase::{Access, Purpose};
-use crate::picture::{look, Call, Operation, Run};
+use crate::picture::{Call, Operation, Run};
 use crate::session::Step;
 use crate::svg::{width_of, Anchor, Drawing};
 use crate::word::{cell_name, content, held, state, Content};
 
 pub const PICTURE_WIDTH: f64 = 1050.0;
-pub const LEGEND_HEIGHT: f64 = 70.0;
 
-const LEFT: f64 = 125.0;
+pub const LEFT: f64 = 125.0;
 const LANES_WIDTH: f64 = 910.0;
 const WIDEST_COLUMN: f64 = 20.0;
 const RULER: f64 = 16.0;
@@ -28,40 +27,6 @@ const STRETCH: f64 = 6.0;
 const BETWEEN: f64 = 8.0;
 const BELOW: f64 = 18.0;
 const SMALL: f64 = 9.0;
-
-const LEGEND_COLUMNS: usize = 5;
-const LEGEND_COLUMN: f64 = 182.0;
-
-const REST: &str = "#d9f2d9";
-const CHANGING: &str = "#fbe3c2";
-const READING: &str = "#d8e4f2";
-const STOPPED: &str = "#f7f0e6";
-const WAITING: &str = "#ffd9a8";
-const RESPONSE: &str = "#cdb9e3";
-const FREE: &str = "#eeeeee";
-
-/// The marks of the legend.
-const MARKS: [(Purpose, bool); 9] = [
-    (Purpose::Read, false),
-    (Purpose::Announce, false),
-    (Purpose::Retract, false),
-    (Purpose::Link, false),
-    (Purpose::Release, false),
-    (Purpose::Apply, false),
-    (Purpose::HandOver, false),
-    (Purpose::Clear, false),
-    (Purpose::Link, true),
-];
-
-/// The colours of the legend.
-const COLOURS: [(&str, &str); 6] = [
-    (REST, "point of rest"),
-    (CHANGING, "changing operation"),
-    (READING, "reading operation"),
-    (STOPPED, "pending, no further call"),
-    (WAITING, "operation announced"),
-    (RESPONSE, "response in a cell"),
-];
 
 /// The names by which states and operations are labelled.
 pub struct Labels {
@@ -312,39 +277,5 @@ fn draw_step(drawing: &mut Drawing, row: &Row, column: usize, step: &Step) {
     let title = step_line(step);
     for place in [from, to] {
         draw_mark(drawing, place, step.planned.purpose, step.failed(), &title);
-    }
-}
-
-/// The shape says the access: a ring reads, a square writes, a disc is a swap that is made, a cross one that fails.
-fn draw_mark(drawing: &mut Drawing, place: (f64, f64), purpose: Purpose, failed: bool, title: &str) {
-    let (colour, _) = look(purpose, failed);
-    match purpose.access() {
-        _ if failed => drawing.cross(place, 3.2, colour, title),
-        Access::Read => drawing.ring(place, 2.8, colour, title),
-        Access::Write => drawing.square(place, 3.2, colour, title),
-        Access::Swap => drawing.disc(place, 3.6, colour, title),
-    }
-}
-
-/// What marks and colours mean, five to a line.
-pub fn draw_legend(drawing: &mut Drawing, top: f64) {
-    let place = |at: usize| {
-        let (column, line) = ((at % LEGEND_COLUMNS) as f64, (at / LEGEND_COLUMNS) as f64);
-        (LEFT + LEGEND_COLUMN * column, top + 10.0 + 17.0 * line)
-    };
-    let mut names = Vec::new();
-    for (at, (purpose, failed)) in MARKS.into_iter().enumerate() {
-        let (_, name) = look(purpose, failed);
-        draw_mark(drawing, place(at), purpose, failed, name);
-        names.push(name);
-    }
-    for (fill, name) in COLOURS {
-        let (x, y) = place(names.len());
-        drawing.rectangle((x - 5.0, y - 5.0), (11.0, 11.0), fill);
-        names.push(name);
-    }
-    for (at, name) in names.into_iter().enumerate() {
-        let (x, y) = place(at);
-        drawing.text((x + 10.0, y + 4.0), 11.0, Anchor::Start, name);
     }
 }

@@ -4,6 +4,7 @@ mod program;
 
 use program::drive;
 use reference::random::Random;
+use reference::refusal::Refusal;
 use reference::table::Table;
 use reference::table_cases::{fixed_cases, random_case, random_table};
 use reference::table_file::TableFile;
@@ -173,67 +174,69 @@ fn small(lines: &str) -> String {
     format!("states 1\noperations 1\nstart 0\n0 0 -> 0 255\n{lines}")
 }
 
+fn refused_with(text: &str, reason: &str) {
+    let said = drive(&["table", "-"], text.as_bytes()).failure();
+    assert_eq!(said, format!("drive: {reason}\n"));
+}
+
+const NO_STATE: &str =
+    "is no state: they are 0 to 0; names are listed in the text, as '| states: NAME NAME', one for each";
+
 #[test]
-fn a_wrong_text_is_refused_with_its_line() {
+fn a_wrong_line_is_refused_with_its_number() {
     let form = "a line is '| text', 'states N', 'operations N', 'start STATE', \
                 'STATE OPERATION -> STATE RESPONSE', or '# comment'";
-    let names = "they are 0 to 0; names are listed in the text, as '| states: NAME NAME', one for each";
-    let dimensions = refused(reference::refusal::Refusal::Dimensions);
-    let length = refused(reference::refusal::Refusal::Length);
-    let long = small(&format!("| {}\n", "x".repeat(4_096)));
-    for (text, reason) in [
-        (small("what\n"), format!("line 5: {form}")),
-        (small("states 2\n"), "line 5: line 1 has said this".into()),
+    for (line, reason) in [
+        ("what", form),
+        ("states 2", "line 1 has said this"),
+        ("0 0 -> 0 0", "state 0 has operation 0 twice"),
+        ("1 0 -> 0 0", &format!("1 {NO_STATE}")),
+        ("0 0 -> up 0", &format!("up {NO_STATE}")),
         (
-            small("0 0 -> 0 0\n"),
-            "line 5: state 0 has operation 0 twice".into(),
-        ),
-        (small("1 0 -> 0 0\n"), format!("line 5: 1 is no state: {names}")),
-        (small("0 0 -> up 0\n"), format!("line 5: up is no state: {names}")),
-        (
-            small("0 0 -> 0 256\n"),
-            "line 5: 256 is no response: responses are numbers from 0 to 255".into(),
+            "0 0 -> 0 256",
+            "256 is no response: responses are numbers from 0 to 255",
         ),
         (
-            small("| \\q\n"),
-            "line 5: a backslash stands before \\, before xNN, or at the end of a line".into(),
-        ),
-        (
-            small("| states: up\n1 0 -> 0 0\n"),
-            "line 6: 1 is no state: they are 0 to 0, or go by their names".into(),
-        ),
-        (long, format!("the table is {length}")),
-        (
-            "operations 1\nstart 0\n".into(),
-            "there is no line 'states N'".into(),
-        ),
-        (
-            "states 1\nstart 0\n".into(),
-            "there is no line 'operations N'".into(),
-        ),
-        (
-            "states 1\noperations 1\n".into(),
-            "there is no line 'start STATE'".into(),
-        ),
-        (
-            "states x\noperations 1\nstart 0\n".into(),
-            "line 1: x is no number from 0 to 65535".into(),
-        ),
-        ("states 257\noperations 1\nstart 0\n".into(), dimensions.clone()),
-        ("states 1\noperations 0\nstart 0\n".into(), dimensions),
-        (
-            "states 2\noperations 1\nstart 0\n1 0 -> 0 0\n".into(),
-            "there is no entry for operation 0 in state 0".into(),
-        ),
-        (
-            "states 1\noperations 1\nstart 1\n0 0 -> 0 0\n".into(),
-            format!("line 3: 1 is no state: {names}"),
+            "| \\q",
+            "a backslash stands before \\, before xNN, or at the end of a line",
         ),
     ] {
-        assert_eq!(
-            drive(&["table", "-"], text.as_bytes()).failure(),
-            format!("drive: {reason}\n")
-        );
+        refused_with(&small(line), &format!("line 5: {reason}"));
+    }
+    let named = small("| states: up\n1 0 -> 0 0");
+    refused_with(
+        &named,
+        "line 6: 1 is no state: they are 0 to 0, or go by their names",
+    );
+}
+
+#[test]
+fn a_text_that_is_no_object_is_refused() {
+    let long = small(&format!("| {}", "x".repeat(4_096)));
+    refused_with(&long, &format!("the table is {}", refused(Refusal::Length)));
+    for (text, reason) in [
+        ("operations 1\nstart 0\n", "there is no line 'states N'"),
+        ("states 1\nstart 0\n", "there is no line 'operations N'"),
+        ("states 1\noperations 1\n", "there is no line 'start STATE'"),
+        (
+            "states x\noperations 1\nstart 0\n",
+            "line 1: x is no number from 0 to 65535",
+        ),
+        (
+            "states 257\noperations 1\nstart 0\n",
+            &refused(Refusal::Dimensions),
+        ),
+        ("states 1\noperations 0\nstart 0\n", &refused(Refusal::Dimensions)),
+        (
+            "states 2\noperations 1\nstart 0\n1 0 -> 0 0\n",
+            "there is no entry for operation 0 in state 0",
+        ),
+        (
+            "states 1\noperations 1\nstart 1\n0 0 -> 0 0\n",
+            &format!("line 3: 1 {NO_STATE}"),
+        ),
+    ] {
+        refused_with(text, reason);
     }
     assert_eq!(
         drive(&["table", "-"], b"\xff").failure(),
