@@ -9,6 +9,7 @@
  *    pointer may have any value; the one to a record is always valid.
  *  - File, cells, row and record do not overlap, and nobody else writes them during the call.
  *  - Begin and step are called with switching closed: one call ends before the next one starts.
+ *  - Handlers that run on the caller's stack leave the 128 bytes below the stack pointer alone.
  * Within a run (an accepted start and the begins and steps after it) nothing but the calls writes cells, row or
  * table, and every call is lent the same ones. A kernel may instead keep each record with its task: it takes them out
  * of the row after start, and makes every call for a task with the task's record and the row's number of records.

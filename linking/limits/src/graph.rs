@@ -1,0 +1,102 @@
+//! The instructions of a function that can be reached, each with those that can follow it.
+
+use std::collections::BTreeMap;
+
+use crate::instruction::Flow;
+use crate::jump_tables::{table_jump, TableJump};
+use crate::listing::{Callee, Function, Listing};
+
+/// The instructions that can follow each one, by their indices in the function.
+pub type Edges = BTreeMap<usize, Vec<usize>>;
+
+pub struct Graph {
+    pub edges: Edges,
+    /// The functions that instructions call, or jump to at their end.
+    pub callees: BTreeMap<usize, Callee>,
+}
+
+/// What can follow one instruction, and whom it calls.
+#[derive(Default)]
+struct Ways {
+    after: Vec<usize>,
+    callee: Option<Callee>,
+}
+
+impl Graph {
+    pub fn of(listing: &Listing, function: &Function) -> Result<Graph, String> {
+        let mut graph = Graph {
+            edges: Edges::new(),
+            callees: BTreeMap::new(),
+        };
+        let mut tables = BTreeMap::new();
+        let mut ahead = vec![0];
+        while let Some(at) = ahead.pop() {
+            if graph.edges.contains_key(&at) {
+                continue;
+            }
+            let ways = ways(listing, function, at, &mut tables)?;
+            ahead.extend(&ways.after);
+            graph.edges.insert(at, ways.after);
+            graph.callees.extend(ways.callee.map(|callee| (at, callee)));
+        }
+        graph.test_tables(function, &tables)?;
+        Ok(graph)
+    }
+
+    /// Whether control comes to each instruction of a table's jump, behind the first, only from the one before it.
+    fn test_tables(&self, function: &Function, tables: &BTreeMap<usize, TableJump>) -> Result<(), String> {
+        let before = predecessors(&self.edges);
+        for (&jump, table) in tables {
+            let straight = (table.first + 1..=jump).all(|at| before.get(&at) == Some(&vec![at - 1]));
+            if !straight {
+                return Err(function.instructions[jump].refused("has a table that may be another"));
+            }
+        }
+        Ok(())
+    }
+}
+
+pub fn predecessors(edges: &Edges) -> Edges {
+    let mut before = Edges::new();
+    for (&at, after) in edges {
+        for &next in after {
+            before.entry(next).or_default().push(at);
+        }
+    }
+    before
+}
+
+fn ways(
+    listing: &Listing,
+    function: &Function,
+    at: usize,
+    tables: &mut BTreeMap<usize, TableJump>,
+) -> Result<Ways, String> {
+    let instruction = function.instructions.get(at).ok_or("control runs past the end")?;
+    let here = instruction.target().and_then(|target| function.index_of(target));
+    let here = here.filter(|_| instruction.relocation.is_none());
+    let on = |after| Ways { after, callee: None };
+    let callee = |after| {
+        listing.callee(function, instruction).map(|callee| Ways {
+            after,
+            callee: Some(callee),
+        })
+    };
+    match (instruction.flow()?, here) {
+        (Flow::On, _) => Ok(on(vec![at + 1])),
+        (Flow::Return | Flow::Never, _) => Ok(Ways::default()),
+        (Flow::Jump, Some(target)) => Ok(on(vec![target])),
+        (Flow::Jump, None) => callee(Vec::new()),
+        (Flow::Branch, Some(target)) => Ok(on(vec![at + 1, target])),
+        (Flow::Branch, None) => Err(instruction.refused("leads out of its function")),
+        (Flow::Call, _) => callee(vec![at + 1]),
+        (Flow::JumpByTable, _) => {
+            let jump = table_jump(listing, function, at)?;
+            let mut after = jump.targets.clone();
+            after.sort_unstable();
+            after.dedup();
+            tables.insert(at, jump);
+            Ok(on(after))
+        }
+    }
+}

@@ -1,0 +1,90 @@
+//! The tables for docs/LINKING.md, and their place in it.
+
+use std::collections::{BTreeMap, BTreeSet};
+
+use crate::survey::Limits;
+use crate::turns::{Turn, Turns};
+
+/// The exported calls, in the page's order.
+pub const CALLS: [&str; 7] = [
+    "drive_check",
+    "drive_start",
+    "drive_begin",
+    "drive_step",
+    "drive_begin_record",
+    "drive_step_record",
+    "drive_ceiling",
+];
+
+const OPENING: &str = "<!-- limits -->\n";
+const CLOSING: &str = "<!-- end of limits -->\n";
+
+/// The two tables: the calls with their limits, and the turns that are given.
+pub fn tables(known: &BTreeMap<String, Limits>, given: &[Turns]) -> Result<String, String> {
+    let unknown = known
+        .keys()
+        .find(|name| name.starts_with("drive_") && !CALLS.contains(&name.as_str()));
+    if let Some(name) = unknown {
+        return Err(format!("{name} is exported, and not among the calls"));
+    }
+    let mut text = String::from(
+        "| call | bytes of stack | of them below the stack pointer | instructions | vector registers |\n\
+         |---|---|---|---|---|\n",
+    );
+    for call in CALLS {
+        let limits = known
+            .get(call)
+            .ok_or_else(|| format!("{call} is not in the archive"))?;
+        text.push_str(&row(call, limits));
+    }
+    text.push_str("\n| function | turns of its loops at most |\n|---|---|\n");
+    for (function, turns) in given {
+        text.push_str(&format!("| `{function}` | {} |\n", product(turns)));
+    }
+    Ok(text)
+}
+
+/// Loops in the order of their headers; one that stands in the last one multiplies.
+fn product(turns: &[Turn]) -> String {
+    let mut text = String::new();
+    for turn in turns {
+        let between = match turn.depth {
+            _ if text.is_empty() => "",
+            1 => "; ",
+            _ => " × ",
+        };
+        text.push_str(&format!("{between}{} {}", turn.most, turn.over));
+    }
+    text
+}
+
+fn row(call: &str, limits: &Limits) -> String {
+    let outside: String = limits.outside.iter().map(|name| format!(" + `{name}`")).collect();
+    let (stack, below) = (grouped(limits.stack), grouped(limits.below));
+    let instructions = grouped(limits.instructions);
+    let registers = named(&limits.vector_registers);
+    format!("| `{call}` | {stack}{outside} | {below} | {instructions}{outside} | {registers} |\n")
+}
+
+fn named(registers: &BTreeSet<String>) -> String {
+    let registers: Vec<String> = registers.iter().map(|name| format!("`{name}`")).collect();
+    match registers.is_empty() {
+        true => "none".to_string(),
+        false => registers.join(", "),
+    }
+}
+
+/// Digits in groups of three.
+pub fn grouped(number: u64) -> String {
+    match number {
+        0..1000 => number.to_string(),
+        _ => format!("{},{:03}", grouped(number / 1000), number % 1000),
+    }
+}
+
+/// What a page has between the two marks.
+pub fn marked(page: &str) -> Option<&str> {
+    let (_, rest) = page.split_once(OPENING)?;
+    let (tables, _) = rest.split_once(CLOSING)?;
+    Some(tables.trim())
+}
