@@ -193,7 +193,7 @@ static void random_run(bool by_record, size_t tasks) {
     }
 }
 
-static void begins(size_t tasks) {
+static void start_and_begins(size_t tasks) {
     const char *where = "a reading operation of the largest table";
     struct lent lent = {.tasks = tasks};
     WATCHED(START, "the largest table", drive_start, file, file_length, lent.cells, tasks + 1, lent.row, tasks);
@@ -213,7 +213,7 @@ int main(void) {
     WATCHED(CHECK, "the largest table", drive_check, file, file_length);
     for (size_t tasks = 1; tasks <= DRIVE_MOST_TASKS; tasks++) {
         WATCHED(CEILING, "an accepted call", drive_ceiling, tasks);
-        begins(tasks);
+        start_and_begins(tasks);
         random_run(false, tasks);
         random_run(true, tasks);
     }

@@ -63,7 +63,7 @@ pub fn measured() -> Result<String, String> {
     ]);
     words.extend(["-ldrive_object", "-Wl,--wrap=memset"].map(OsStr::new));
     let printed = printed_by("gcc", &words).and_then(|_| printed_by(&built, &[]));
-    // Nothing is left behind if gcc failed.
+    // If gcc failed there is no file to remove.
     let _ = std::fs::remove_file(&built);
     printed
 }

@@ -98,7 +98,8 @@ impl Paths<'_> {
         Ok(counts)
     }
 
-    /// Every turn but the last is a longest one that goes on; the last goes wherever it leaves.
+    /// Every turn but the last is a longest one; it goes on, as each instruction of a loop leads back to the header. The
+    /// last goes wherever it leaves.
     fn counts_of_loop(
         &self,
         region: &Edges,
@@ -107,8 +108,7 @@ impl Paths<'_> {
         until: u64,
     ) -> Result<Counts, String> {
         let turn = self.counts(&one_turn(region, header, part), header)?;
-        let goes_on = turn.iter().filter(|(at, _)| region[at].contains(&header));
-        let longest = goes_on.map(|(_, &count)| count).max().unwrap_or(0);
+        let longest = turn.values().max().copied().unwrap_or(0);
         let turns = self.turns.get(&header).ok_or("a loop has no limit of turns")?;
         let whole = turns.saturating_sub(1) * longest;
         Ok(turn
