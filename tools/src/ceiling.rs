@@ -46,7 +46,7 @@ pub fn report(word: &str) -> Result<String, String> {
     };
     Ok(format!(
         "The own steps of an operation {subject}:\n\
-         {ceiling:>9}  the ceiling of the price list; a count never passes it\n\
+         {ceiling:>9}  the ceiling of the contract; a count never passes it\n\
          {proved:>9}  proved for every table and every list of calls: no operation takes more\n\
          {longest:>9}  {how}\n"
     ))

@@ -18,7 +18,7 @@ const HIGHEST: f64 = 6.0;
 type Series = (&'static str, &'static str, f64, fn(&Limits) -> u64);
 
 const SERIES: [Series; 3] = [
-    ("#d62728", "ceiling of the price list", -8.0, |limits| {
+    ("#d62728", "ceiling of the contract", -8.0, |limits| {
         limits.ceiling
     }),
     ("#1f77b4", "proved bound", -8.0, |limits| limits.proved),
