@@ -67,7 +67,7 @@ pub fn run_in_folder(program: &Path, folder: &Path) -> Result<Vec<u8>, String> {
     expect_own_end(program, output.status, output.stdout)
 }
 
-/// Nothing gives an exit status, so any will do; a program that a signal ended has failed.
+/// No rule gives an exit status, so any will do; a program that a signal ended has failed.
 fn expect_own_end(program: &Path, status: ExitStatus, output: Vec<u8>) -> Result<Vec<u8>, String> {
     match status.code() {
         Some(_) => Ok(output),
