@@ -5,7 +5,7 @@ pub mod bench;
 mod book;
 pub mod calls;
 pub mod ceiling;
-mod cells;
+pub mod cells;
 pub mod compare_bench;
 pub mod compare_tables;
 mod configuration;

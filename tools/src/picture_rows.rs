@@ -209,26 +209,25 @@ impl Labels {
     }
 }
 
-/// What a cell says from column to column: stretches of one colour, with a number where it has room.
+/// What a cell says from column to column: stretches of one colour, with a label where it has room. A word stands from the
+/// middle of the column that wrote it to the middle of the one that replaces it.
 fn draw_content(drawing: &mut Drawing, row: &Row, cell: usize, labels: &Labels) {
     let mut word = if cell == 0 { row.run.state << 8 } else { 0 };
-    let mut from = row.columns.start;
+    let mut left = row.x(row.columns.start);
     for (column, call) in row.run.columns.iter().enumerate().take(row.columns.end) {
         let Call::Step(step) = &call.call else { continue };
         if step.planned.cell != cell || said(cell, step.after, labels) == said(cell, word, labels) {
             continue;
         }
-        draw_stretch(drawing, row, cell, (from, column), said(cell, word, labels));
-        from = column.max(row.columns.start);
+        if row.columns.contains(&column) {
+            let right = row.middle(column);
+            draw_stretch(drawing, row, cell, (left, right), said(cell, word, labels));
+            left = right;
+        }
         word = step.after;
     }
-    draw_stretch(
-        drawing,
-        row,
-        cell,
-        (from, row.columns.end),
-        said(cell, word, labels),
-    );
+    let right = row.x(row.columns.end);
+    draw_stretch(drawing, row, cell, (left, right), said(cell, word, labels));
 }
 
 /// Colour and label of a cell's word; none for an empty announcement.
@@ -242,28 +241,17 @@ fn said(cell: usize, word: u64, labels: &Labels) -> Option<(&'static str, String
     }
 }
 
-/// A word stands from the middle of the column that wrote it to the middle of the one that replaces it.
 fn draw_stretch(
     drawing: &mut Drawing,
     row: &Row,
     cell: usize,
-    (from, to): (usize, usize),
+    (left, right): (f64, f64),
     said: Option<(&'static str, String)>,
 ) {
-    let (Some((fill, label)), true) = (said, to >= row.columns.start) else {
-        return;
-    };
-    let edge = |column: usize| match column == row.columns.start || column == row.columns.end {
-        true => row.x(column),
-        false => row.middle(column),
-    };
-    let (left, width) = (edge(from), edge(to) - edge(from));
-    drawing.rectangle(
-        (left, row.cell_line(cell) - STRETCH),
-        (width, 2.0 * STRETCH),
-        fill,
-    );
-    if width_of(&label, SMALL) <= width {
+    let Some((fill, label)) = said else { return };
+    let corner = (left, row.cell_line(cell) - STRETCH);
+    drawing.rectangle(corner, (right - left, 2.0 * STRETCH), fill);
+    if width_of(&label, SMALL) <= right - left {
         drawing.text((left, row.cell_top(cell) + 8.5), SMALL, Anchor::Start, &label);
     }
 }

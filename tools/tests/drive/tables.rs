@@ -1,8 +1,6 @@
 //! Object files and their texts, compared with the second program.
 
-mod program;
-
-use program::drive;
+use crate::program::drive;
 use reference::random::Random;
 use reference::refusal::Refusal;
 use reference::table::Table;

@@ -1,11 +1,9 @@
 //! The stories of runs, compared with the second program line by line.
 
-mod program;
-
 use std::collections::BTreeSet;
 use std::path::PathBuf;
 
-use program::drive;
+use crate::program::drive;
 use reference::script_cases::{fixed_scripts, random_script, Script};
 use reference::trace::trace;
 use reference::trace_event::refused;

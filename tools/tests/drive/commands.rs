@@ -1,8 +1,6 @@
 //! Words that the program takes and words that it doesn't.
 
-mod program;
-
-use program::drive;
+use crate::program::drive;
 
 const COMMANDS: [&str; 6] = ["check", "show", "table", "run", "picture", "ceiling"];
 
@@ -47,5 +45,29 @@ fn a_file_that_cant_be_read_is_named() {
     ] {
         let said = drive(&words, b"").failure();
         assert!(said.starts_with("drive: no/table can't be read: "), "{said}");
+    }
+}
+
+#[test]
+fn a_dash_is_the_standard_input() {
+    let (table, text, lines) = (
+        "../crates/bench/data/table.bin",
+        "examples/flag.txt",
+        "../crates/bench/stdin",
+    );
+    for words in [
+        vec!["check", table],
+        vec!["show", table],
+        vec!["table", text],
+        vec!["run", table, lines],
+        vec!["picture", table, lines],
+    ] {
+        let expected = drive(&words, b"").out;
+        for at in 1..words.len() {
+            let mut with_dash = words.clone();
+            with_dash[at] = "-";
+            let input = std::fs::read(words[at]).expect("a file");
+            assert_eq!(drive(&with_dash, &input).out, expected, "{words:?}");
+        }
     }
 }
