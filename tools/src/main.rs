@@ -21,37 +21,48 @@ mod text;
 mod word;
 
 use std::ffi::{OsStr, OsString};
-use std::io::{Read, Write};
+use std::io::{ErrorKind, Read, Write};
 use std::process::ExitCode;
 
-const HELP: &str = "drive looks at objects that tasks share, and at their runs, through the proved library.
+/// The forms of the commands, and what each gives.
+const FORMS: [(&str, &str); 8] = [
+    (
+        "check TABLE",
+        "the shape of an object file, and which operations change the state",
+    ),
+    ("show TABLE", "an object file as text"),
+    ("table TEXT > TABLE", "the object file of such a text"),
+    ("run TABLE LINES", "the bench's lines, each with what happened"),
+    (
+        "picture TABLE LINES > X.svg",
+        "the same as a timeline of tasks and cells",
+    ),
+    ("ceiling N", "how many own steps an operation of N tasks can take"),
+    (
+        "ceiling --chart > X.svg",
+        "the same for one to eight tasks, as a drawing",
+    ),
+    ("--help", "this text"),
+];
 
-  drive check TABLE            the shape of an object file, and which operations change the state
-  drive show TABLE             an object file as text
-  drive table TEXT > TABLE     the object file of such a text
-  drive run TABLE LINES        the bench's lines, each with what happened
-  drive picture TABLE LINES > X.svg
-                               the same as a timeline of tasks and cells
-  drive ceiling N              how many own steps an operation of N tasks can take
-  drive ceiling --chart > X.svg
-                               the same for one to eight tasks
-  drive --help                 this text
+const FIRST: &str =
+    "drive looks at objects that tasks share, and at their runs, through the proved library.\n\n";
 
+const LAST: &str = "
 TABLE, TEXT and LINES are files; - is the standard input. docs/FORMATS.md says what a table and the bench's lines are,
 tools/README.md what the text of an object is.
 Exit status: 0, or 1 if something was refused or could not be read; the reason then stands on the standard error. A line
 of a run that is refused is part of its story, and no error.
 ";
 
+fn help() -> String {
+    let forms = FORMS.map(|(form, gives)| format!("  drive {form:<29}{gives}\n"));
+    [FIRST, &forms.concat(), LAST].concat()
+}
+
 fn main() -> ExitCode {
     let arguments: Vec<OsString> = std::env::args_os().skip(1).collect();
-    let printed = output(&arguments).and_then(|bytes| {
-        let mut out = std::io::stdout().lock();
-        out.write_all(&bytes)
-            .and_then(|()| out.flush())
-            .map_err(|error| format!("the output can't be written: {error}"))
-    });
-    match printed {
+    match output(&arguments).and_then(|bytes| print(&bytes)) {
         Ok(()) => ExitCode::SUCCESS,
         Err(reason) => {
             eprintln!("drive: {reason}");
@@ -60,12 +71,25 @@ fn main() -> ExitCode {
     }
 }
 
+/// A reader that has read enough, as `head`, is no error.
+fn print(bytes: &[u8]) -> Result<(), String> {
+    let mut out = std::io::stdout().lock();
+    match out.write_all(bytes).and_then(|()| out.flush()) {
+        Err(error) if error.kind() != ErrorKind::BrokenPipe => {
+            Err(format!("the output can't be written: {error}"))
+        }
+        _ => Ok(()),
+    }
+}
+
 /// What a command prints, or why it can't.
 fn output(arguments: &[OsString]) -> Result<Vec<u8>, String> {
     let words: Vec<&OsStr> = arguments.iter().map(OsString::as_os_str).collect();
     let command = words.first().and_then(|word| word.to_str()).unwrap_or("");
     match (command, words.get(1..).unwrap_or(&[])) {
-        (_, rest) if command == "--help" || rest.iter().any(|word| *word == "--help") => Ok(HELP.into()),
+        (_, rest) if command == "--help" || rest.iter().any(|word| *word == "--help") => {
+            Ok(help().into_bytes())
+        }
         ("check", [table]) => check::report(&read(table)?).map(String::into_bytes),
         ("show", [table]) => show::text_of(&read(table)?).map(String::into_bytes),
         ("table", [text]) => table::file_of(&read(text)?),
@@ -75,15 +99,24 @@ fn output(arguments: &[OsString]) -> Result<Vec<u8>, String> {
         }
         ("ceiling", [word]) if *word == "--chart" => chart::chart().map(String::into_bytes),
         ("ceiling", [tasks]) => ceiling::report(tasks.to_str().unwrap_or("")).map(String::into_bytes),
-        ("check" | "show" | "table" | "run" | "picture" | "ceiling", _) => {
-            Err(format!("{command} takes other words{HINT}"))
-        }
-        ("", _) => Err(format!("no command is given{HINT}")),
-        _ => Err(format!("there is no command {}{HINT}", words[0].display())),
+        _ if words.is_empty() => Err("no command is given; drive --help lists the commands".into()),
+        _ => Err(other_words(words[0])),
     }
 }
 
-const HINT: &str = "; drive --help lists the commands";
+/// What is said to words that are no command: the forms of the one that was meant, if there is one.
+fn other_words(command: &OsStr) -> String {
+    let forms = FORMS.iter().map(|(form, _)| *form);
+    let meant = forms.filter(|form| form.split(' ').next().map(OsStr::new) == Some(command));
+    let meant: Vec<String> = meant.map(|form| format!("drive {form}")).collect();
+    match meant.is_empty() {
+        true => format!(
+            "there is no command {}; drive --help lists the commands",
+            command.display()
+        ),
+        false => format!("{} takes other words: {}", command.display(), meant.join(", or ")),
+    }
+}
 
 /// The bytes of a file, or of the standard input.
 fn read(path: &OsStr) -> Result<Vec<u8>, String> {

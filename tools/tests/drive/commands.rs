@@ -14,7 +14,7 @@ fn help_names_every_command() {
 }
 
 #[test]
-fn other_words_are_refused() {
+fn other_words_are_refused_with_the_right_ones() {
     let hint = "; drive --help lists the commands\n";
     assert_eq!(
         drive(&[], b"").failure(),
@@ -24,12 +24,17 @@ fn other_words_are_refused() {
         drive(&["chek"], b"").failure(),
         format!("drive: there is no command chek{hint}")
     );
-    for command in COMMANDS {
+    for (command, forms) in [
+        ("check", "drive check TABLE"),
+        ("show", "drive show TABLE"),
+        ("table", "drive table TEXT > TABLE"),
+        ("run", "drive run TABLE LINES"),
+        ("picture", "drive picture TABLE LINES > X.svg"),
+        ("ceiling", "drive ceiling N, or drive ceiling --chart > X.svg"),
+    ] {
         for words in [vec![command], vec![command, "a", "b", "c"]] {
-            assert_eq!(
-                drive(&words, b"").failure(),
-                format!("drive: {command} takes other words{hint}")
-            );
+            let said = drive(&words, b"").failure();
+            assert_eq!(said, format!("drive: {command} takes other words: {forms}\n"));
         }
     }
 }
