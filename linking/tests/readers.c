@@ -14,6 +14,8 @@ static void read_step(uint64_t reserved) {
     uint64_t running = reserved;
     assert(drive_answer_refusal(running) == 0);
     assert(!drive_answer_ended(running));
+    assert(!drive_answer_ended(UINT64_C(0x12345678abcd0000) | reserved));
+    assert(drive_answer_ended(0x100 | reserved));
     uint64_t ended = UINT64_C(0x12345678abcd0100) | reserved;
     assert(drive_answer_refusal(ended) == 0);
     assert(drive_answer_ended(ended));
@@ -36,7 +38,7 @@ static void read_ceiling(uint64_t reserved) {
 }
 
 static void read_refusals(uint64_t reserved) {
-    for (unsigned number = DRIVE_FILE; number <= DRIVE_CELL; number++) {
+    for (unsigned number = 1; number <= UINT8_MAX; number++) {
         assert(drive_answer_refusal(number | reserved) == number);
         assert(!drive_answer_ended(number | reserved));
     }

@@ -7,7 +7,7 @@ use crate::refused;
 /// The longest operations known, for one to eight tasks; docs/CEILINGS.md says how each is known.
 const LONGEST_KNOWN: [u64; 8] = [17, 124, 384, 892, 1_748, 3_046, 4_893, 7_375];
 
-/// Up to how many tasks every schedule has been explored, and up to how many by an argument that leaves some out.
+/// Up to how many tasks every schedule has been explored on some tables, and up to how many with some left out by an argument.
 const EXPLORED: usize = 2;
 const ARGUED: usize = 3;
 
@@ -54,8 +54,10 @@ pub fn report(word: &str) -> Result<String, String> {
 
 fn how_known(tasks: usize) -> &'static str {
     match tasks {
-        0..=EXPLORED => "the longest that occurs: every schedule was explored",
-        ARGUED => "the longest that occurs: explored, with an argument for the schedules left out",
+        0..=EXPLORED => {
+            "the longest there is: all schedules on three tables; for other tables argued, not proved"
+        }
+        ARGUED => "the longest there is: explored, and for schedules and tables left out argued, not proved",
         _ => "the longest known: a search found it, and a longer one may exist",
     }
 }

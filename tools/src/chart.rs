@@ -43,7 +43,7 @@ pub fn chart() -> Result<String, String> {
         (LEFT, 22.0),
         14.0,
         Anchor::Start,
-        "Own steps of an operation, by the number of tasks",
+        "Own steps of an operation, by the number of tasks (logarithmic scale)",
     );
     draw_scales(&mut drawing);
     for (colour, name, below, of) in SERIES {

@@ -1,7 +1,6 @@
 //! What the marks and colours of a timeline mean.
 
 use crate::phase::{Access, Purpose};
-use crate::picture_rows::LEFT;
 use crate::svg::{Anchor, Drawing};
 
 pub const REST: &str = "#d9f2d9";
@@ -12,7 +11,8 @@ pub const WAITING: &str = "#ffd9a8";
 pub const RESPONSE: &str = "#cdb9e3";
 pub const FREE: &str = "#eeeeee";
 
-pub const HEIGHT: f64 = 70.0;
+pub const HEIGHT: f64 = 92.0;
+/// Marks and colours in a line.
 const COLUMNS: usize = 5;
 const COLUMN: f64 = 182.0;
 
@@ -38,6 +38,10 @@ const COLOURS: [(&str, &str); 6] = [
     (WAITING, "operation announced"),
     (RESPONSE, "response in a cell"),
 ];
+
+/// What the labels say.
+const LABELS: &str = "Over a bar: operation \u{2192} response. Over the head: its state. Over an announcement: its operation or its \
+                      response. At the top: the number of the call.";
 
 /// Colour and name of what a step does.
 fn look(purpose: Purpose, failed: bool) -> (&'static str, &'static str) {
@@ -65,11 +69,11 @@ pub fn draw_mark(drawing: &mut Drawing, place: (f64, f64), purpose: Purpose, fai
     }
 }
 
-/// What marks and colours mean, five to a line.
-pub fn draw_legend(drawing: &mut Drawing, top: f64) {
+/// What marks, colours and labels mean, from the corner given.
+pub fn draw_legend(drawing: &mut Drawing, (left, top): (f64, f64)) {
     let place = |at: usize| {
         let (column, line) = ((at % COLUMNS) as f64, (at / COLUMNS) as f64);
-        (LEFT + COLUMN * column, top + 10.0 + 17.0 * line)
+        (left + COLUMN * column, top + 10.0 + 17.0 * line)
     };
     let mut names = Vec::new();
     for (at, (purpose, failed)) in MARKS.into_iter().enumerate() {
@@ -86,4 +90,5 @@ pub fn draw_legend(drawing: &mut Drawing, top: f64) {
         let (x, y) = place(at);
         drawing.text((x + 10.0, y + 4.0), 11.0, Anchor::Start, name);
     }
+    drawing.text((left - 5.0, top + 70.0), 11.0, Anchor::Start, LABELS);
 }

@@ -18,11 +18,14 @@ mod show;
 mod svg;
 mod table;
 mod text;
+mod timeline;
 mod word;
 
 use std::ffi::{OsStr, OsString};
 use std::io::{ErrorKind, Read, Write};
 use std::process::ExitCode;
+
+use drive_object::LONGEST_FILE;
 
 /// The forms of the commands, and what each gives.
 const FORMS: [(&str, &str); 8] = [
@@ -90,15 +93,20 @@ fn output(arguments: &[OsString]) -> Result<Vec<u8>, String> {
         (_, rest) if command == "--help" || rest.iter().any(|word| *word == "--help") => {
             Ok(help().into_bytes())
         }
-        ("check", [table]) => check::report(&read(table)?).map(String::into_bytes),
-        ("show", [table]) => show::text_of(&read(table)?).map(String::into_bytes),
+        (_, [one, other]) if one == other && *one == "-" => {
+            Err("the standard input can be only one of the files".into())
+        }
+        ("check", [table]) => check::report(&read_table(table)?).map(String::into_bytes),
+        ("show", [table]) => show::text_of(&read_table(table)?).map(String::into_bytes),
         ("table", [text]) => table::file_of(&read(text)?),
-        ("run", [table, lines]) => narrative::story(&read(table)?, &read(lines)?).map(String::into_bytes),
+        ("run", [table, lines]) => {
+            narrative::story(&read_table(table)?, &read(lines)?).map(String::into_bytes)
+        }
         ("picture", [table, lines]) => {
-            picture::timeline(&read(table)?, &read(lines)?).map(String::into_bytes)
+            picture::timeline(&read_table(table)?, &read(lines)?).map(String::into_bytes)
         }
         ("ceiling", [word]) if *word == "--chart" => chart::chart().map(String::into_bytes),
-        ("ceiling", [tasks]) => ceiling::report(tasks.to_str().unwrap_or("")).map(String::into_bytes),
+        ("ceiling", [tasks]) => ceiling::report(&tasks.to_string_lossy()).map(String::into_bytes),
         _ if words.is_empty() => Err("no command is given; drive --help lists the commands".into()),
         _ => Err(other_words(words[0])),
     }
@@ -118,12 +126,21 @@ fn other_words(command: &OsStr) -> String {
     }
 }
 
-/// The bytes of a file, or of the standard input.
+/// A table that is longer than any that is served is read only as far as shows that.
+fn read_table(path: &OsStr) -> Result<Vec<u8>, String> {
+    read_most(path, LONGEST_FILE as u64 + 1)
+}
+
 fn read(path: &OsStr) -> Result<Vec<u8>, String> {
+    read_most(path, u64::MAX)
+}
+
+/// The first bytes of a file, or of the standard input, as many as there are up to `most`.
+fn read_most(path: &OsStr, most: u64) -> Result<Vec<u8>, String> {
     let mut bytes = Vec::new();
     let done = match path == "-" {
-        true => std::io::stdin().lock().read_to_end(&mut bytes).map(|_| ()),
-        false => std::fs::read(path).map(|read| bytes = read),
+        true => std::io::stdin().lock().take(most).read_to_end(&mut bytes),
+        false => std::fs::File::open(path).and_then(|file| file.take(most).read_to_end(&mut bytes)),
     };
     done.map_err(|error| format!("{} can't be read: {error}", path.display()))?;
     Ok(bytes)

@@ -2,44 +2,55 @@
 //! `operations:` may list them, in the order of their numbers.
 
 /// The names of one kind, or none: then its members go by their numbers.
-pub struct Names(Vec<String>);
+#[derive(Default)]
+pub struct Names {
+    names: Vec<String>,
+    /// Why a list in the text names nothing.
+    pub misfit: Option<String>,
+}
 
 impl Names {
-    /// The names that the text's line after `kind:` lists, if they are names for exactly `count` different things.
+    /// The names in the first list of this kind in the text that has a name for each of `count` members.
     pub fn in_text(text: &[u8], kind: &str, count: usize) -> Names {
-        let lines = text.split(|byte| *byte == b'\n');
-        let lists = lines.filter_map(|line| {
-            std::str::from_utf8(line)
-                .ok()?
-                .strip_prefix(kind)?
-                .strip_prefix(':')
-        });
-        let mut lists = lists.map(|list| list.split_whitespace().map(String::from).collect::<Vec<_>>());
-        let fits = |names: &Vec<String>| {
-            let mut sorted = names.clone();
-            sorted.sort();
-            sorted.dedup();
-            sorted.len() == count && names.len() == count && names.iter().all(|name| is_name(name))
-        };
-        Names(lists.find(fits).unwrap_or_default())
+        let start = format!("{kind}s:");
+        let mut found = Names::default();
+        for line in text.split(|byte| *byte == b'\n') {
+            let Some(list) = std::str::from_utf8(line)
+                .ok()
+                .and_then(|line| line.strip_prefix(&start))
+            else {
+                continue;
+            };
+            let names: Vec<String> = list.split_whitespace().map(String::from).collect();
+            match misfit(&names, count) {
+                None => return Names { names, misfit: None },
+                Some(reason) => {
+                    found.misfit = Some(format!("the text's line '{start}' is not used: {reason}"))
+                }
+            }
+        }
+        found
     }
 
     /// The name of a member, else its number.
     pub fn of(&self, number: usize) -> String {
-        self.0.get(number).cloned().unwrap_or_else(|| number.to_string())
+        self.names
+            .get(number)
+            .cloned()
+            .unwrap_or_else(|| number.to_string())
     }
 
     /// The number of a member that is given by name or number.
     pub fn number(&self, word: &str) -> Option<usize> {
         match word.bytes().all(|byte| byte.is_ascii_digit()) {
             true => word.parse().ok(),
-            false => self.0.iter().position(|name| name == word),
+            false => self.names.iter().position(|name| name == word),
         }
     }
 
     /// Whether members have names.
     pub fn any(&self) -> bool {
-        !self.0.is_empty()
+        !self.names.is_empty()
     }
 
     /// The width of the longest of `count` names or numbers.
@@ -48,6 +59,20 @@ impl Names {
             .map(|number| self.of(number).chars().count())
             .max()
             .unwrap_or(0)
+    }
+}
+
+/// Why a list is none of names for `count` members.
+fn misfit(names: &[String], count: usize) -> Option<String> {
+    let mut sorted = names.to_vec();
+    sorted.sort();
+    let twice = sorted.windows(2).find(|pair| pair[0] == pair[1]);
+    let odd = names.iter().find(|name| !is_name(name));
+    match (names.len() == count, twice, odd) {
+        (false, _, _) => Some(format!("it has {} names for {count}", names.len())),
+        (_, Some(pair), _) => Some(format!("{} stands twice", pair[0])),
+        (_, _, Some(odd)) => Some(format!("{odd} is no name")),
+        _ => None,
     }
 }
 

@@ -1,5 +1,7 @@
 //! `drive run`: the bench's lines, each with what happened in words.
 
+use drive_object::Shape;
+
 use crate::lines::LONGEST;
 use crate::phase::Access;
 use crate::refused;
@@ -10,22 +12,11 @@ use crate::word::{cell_name, marks, meaning};
 /// The story of an input, or why the table isn't served.
 pub fn story(file: &[u8], input: &[u8]) -> Result<String, String> {
     let session = serve(file, input)?;
-    let (states, operations) = (session.shape.states, session.shape.operations);
-    let start = session.shape.start;
     let mut lines = Vec::new();
     for served in &session.served {
         lines.push(format!("> {}", shown(served.line)));
-        for event in &served.events {
-            match event {
-                Event::Started { tasks } => {
-                    lines.push(format!(
-                        "  started: tasks {tasks}, states {states}, operations {operations}, state {start}"
-                    ));
-                }
-                Event::Printed(cells) => lines.extend(cell_lines(cells)),
-                _ => lines.push(format!("  {}", told(event))),
-            }
-        }
+        let told = served.events.iter().flat_map(|event| told(event, session.shape));
+        lines.extend(told.map(|line| format!("  {line}")));
         lines.extend(served.printed.iter().map(|line| format!("< {line}")));
     }
     lines.push(String::new());
@@ -40,9 +31,18 @@ fn shown(line: &[u8]) -> String {
     }
 }
 
-/// An event that takes one line.
-fn told(event: &Event) -> String {
-    match event {
+/// The lines of an event.
+fn told(event: &Event, shape: Shape) -> Vec<String> {
+    let line = match event {
+        Event::Printed(cells) => return cell_lines(cells),
+        Event::Started { tasks } => {
+            let Shape {
+                states,
+                operations,
+                start,
+            } = shape;
+            format!("started: tasks {tasks}, states {states}, operations {operations}, state {start}")
+        }
         Event::Begun {
             task,
             operation,
@@ -63,8 +63,8 @@ fn told(event: &Event) -> String {
         Event::Rest { state } => format!("at rest in state {state}"),
         Event::Refused(refusal) => refused::in_words(*refusal),
         Event::Unknown => refused::line_in_words(),
-        Event::Started { .. } | Event::Printed(_) => String::new(),
-    }
+    };
+    vec![line]
 }
 
 /// Task, own step, phase, access, cell, words and meaning of a step.
@@ -92,13 +92,13 @@ fn words(step: &Step) -> String {
 /// The cells with their meaning, and how many marks are set in all of them together.
 fn cell_lines(cells: &[u64]) -> Vec<String> {
     let line = |(cell, word): (usize, &u64)| {
-        format!("  {:<14}  {word:016x}  {}", cell_name(cell), meaning(cell, *word))
+        format!("{:<14}  {word:016x}  {}", cell_name(cell), meaning(cell, *word))
     };
     let total: u32 = cells.iter().map(|word| marks(*word)).sum();
     cells
         .iter()
         .enumerate()
         .map(line)
-        .chain([format!("  marks {total}")])
+        .chain([format!("marks {total}")])
         .collect()
 }

@@ -2,13 +2,14 @@
 
 use drive_object::{check, Shape};
 
+use crate::names::Names;
 use crate::refused;
 
 /// Bytes of the trailer at the file's end.
-pub const TRAILER: usize = 16;
+const TRAILER: usize = 16;
 
 /// The trailer's last bytes.
-pub const MARK: &[u8; 6] = b"DRIVE1";
+const MARK: &[u8; 6] = b"DRIVE1";
 
 /// A file that check has accepted.
 pub struct Object<'a> {
@@ -42,6 +43,14 @@ impl Object<'_> {
     pub fn text(&self) -> &[u8] {
         let entries = 2 * self.states() * self.operations();
         &self.file[..self.file.len() - TRAILER - entries]
+    }
+
+    pub fn state_names(&self) -> Names {
+        Names::in_text(self.text(), "state", self.states())
+    }
+
+    pub fn operation_names(&self) -> Names {
+        Names::in_text(self.text(), "operation", self.operations())
     }
 
     /// Entries run by state, then by operation.

@@ -87,9 +87,15 @@ const RANGES: [Row; 9] = [
 const FIRST_RANGE: usize = 16;
 const RANGE: usize = 8;
 
-/// The phase number that begin leaves for a reading and for a changing operation.
-pub const READ_ONLY: u32 = 1;
-pub const ANNOUNCE: u32 = 2;
+/// Whether the operation that begin has left a record for is changing: begin leaves phase 2 then, and phase 1 for a
+/// reading one.
+pub fn begun_changing(record: &Task) -> Option<bool> {
+    match record.phase {
+        1 => Some(false),
+        2 => Some(true),
+        _ => None,
+    }
+}
 
 /// What the next step of a task does, by its record.
 #[derive(Clone, PartialEq, Eq, Debug)]

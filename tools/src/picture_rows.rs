@@ -5,9 +5,9 @@ use std::ops::Range;
 use crate::legend::{draw_mark, CHANGING, FREE, READING, RESPONSE, REST, STOPPED, WAITING};
 use crate::names::Names;
 use crate::narrative::step_line;
-use crate::picture::{Call, Operation, Run};
 use crate::session::Step;
 use crate::svg::{width_of, Anchor, Drawing};
+use crate::timeline::{Call, Operation, Run};
 use crate::word::{cell_name, content, held, state, Content};
 
 pub const PICTURE_WIDTH: f64 = 1050.0;
@@ -179,21 +179,22 @@ fn draw_operation(drawing: &mut Drawing, row: &Row, operation: &Operation, label
     let moving = last.min(row.run.last_call(operation.task) + 1).max(first);
     let fill = if operation.changing { CHANGING } else { READING };
     for (from, to, fill) in [(first, moving, fill), (moving, last, STOPPED)] {
+        if from == to {
+            continue;
+        }
         let corner = (row.x(from), row.task_line(operation.task) - BAR);
         drawing.rectangle(corner, (row.x(to) - row.x(from), 2.0 * BAR), fill);
     }
-    let label = labels.operation(operation, row.x(last) - row.x(first));
-    drawing.text(
-        (row.x(first), row.task_top(operation.task) + 9.0),
-        SMALL,
-        Anchor::Start,
-        &label,
-    );
+    let next = row.run.next_begin(operation).min(row.columns.end);
+    if let Some(label) = labels.operation(operation, row.x(next) - row.x(first)) {
+        let place = (row.x(first), row.task_top(operation.task) + 9.0);
+        drawing.text(place, SMALL, Anchor::Start, &label);
+    }
 }
 
 impl Labels {
-    /// An operation and what it answers, as long as there is room for.
-    fn operation(&self, operation: &Operation, room: f64) -> String {
+    /// An operation and what it answers, or the answer alone, or nothing: the longest that there is room for.
+    fn operation(&self, operation: &Operation, room: f64) -> Option<String> {
         let name = self.operations.of(operation.number);
         let answer = operation
             .ended
@@ -202,10 +203,12 @@ impl Labels {
             true => format!("{name} \u{2192} {answer}"),
             false => format!("operation {name} \u{2192} {answer}"),
         };
-        match width_of(&long, SMALL) <= room {
-            true => long,
-            false => format!("{name}\u{2192}{answer}"),
-        }
+        let labels = [
+            long,
+            format!("{name}\u{2192}{answer}"),
+            format!("\u{2192}{answer}"),
+        ];
+        labels.into_iter().find(|label| width_of(label, SMALL) <= room)
     }
 }
 

@@ -4,7 +4,7 @@ use drive_object::{begin, start, step, Progress, Refusal, Shape, Task};
 
 use crate::lines::{self, Command};
 use crate::object::Object;
-use crate::phase::{self, planned, Access, Planned};
+use crate::phase::{begun_changing, planned, Access, Planned};
 use crate::refused;
 use crate::word;
 
@@ -131,7 +131,8 @@ impl Run {
             Command::Begin(task, operation) => self.begin(file, task, operation, events).map(|()| None),
             Command::Step(task) => self.step(file, task, events),
             Command::Finish(task) => self.finish(file, task, events),
-            _ => {
+            // A start is served before a run is there.
+            Command::Print | Command::Start(_) => {
                 events.push(Event::Printed(self.cells.clone()));
                 Ok(Some(self.cells_line()))
             }
@@ -147,7 +148,7 @@ impl Run {
         events: &mut Vec<Event>,
     ) -> Result<(), Refusal> {
         begin(file, &mut self.row, task, operation)?;
-        let changing = self.row[task].phase == phase::ANNOUNCE;
+        let changing = begun_changing(&self.row[task]).expect("begin leaves phase 1 or 2");
         self.pending[task] = Some((operation, changing));
         events.push(Event::Begun {
             task,

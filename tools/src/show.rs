@@ -2,15 +2,13 @@
 
 use std::fmt::Write;
 
-use crate::names::Names;
 use crate::object::Object;
 use crate::text::escape;
 
 /// The text of an object file, or the refusal in words.
 pub fn text_of(file: &[u8]) -> Result<String, String> {
     let object = Object::of(file)?;
-    let states = Names::in_text(object.text(), "states", object.states());
-    let operations = Names::in_text(object.text(), "operations", object.operations());
+    let (states, operations) = (object.state_names(), object.operation_names());
     let mut out = free_text(object.text());
     let start = states.of(usize::from(object.shape.start));
     let (count, kinds) = (object.states(), object.operations());

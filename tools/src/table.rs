@@ -127,8 +127,10 @@ fn once<'a>(place: &mut Option<(usize, &'a str)>, at: usize, word: &'a str) -> R
 /// The number in a line `KIND N`.
 fn number(said: Option<(usize, &str)>, kind: &str) -> Result<u16, String> {
     let (at, word) = said.ok_or_else(|| format!("there is no line '{kind} N'"))?;
-    word.parse()
-        .map_err(|_| format!("line {at}: {word} is no number from 0 to {}", u16::MAX))
+    match word.bytes().all(|byte| byte.is_ascii_digit()) {
+        true => word.parse().map_err(|_| refused::in_words(Refusal::Dimensions)),
+        false => Err(format!("line {at}: {word} is no number")),
+    }
 }
 
 /// The states or the operations of an object.
@@ -146,7 +148,7 @@ struct Known {
 impl Members {
     fn new(text: &[u8], kind: &'static str, count: u16) -> Members {
         let count = usize::from(count);
-        let names = Names::in_text(text, &format!("{kind}s"), count);
+        let names = Names::in_text(text, kind, count);
         Members { kind, count, names }
     }
 
@@ -156,12 +158,16 @@ impl Members {
 
     fn number(&self, word: &str) -> Result<usize, String> {
         let (kind, last) = (self.kind, self.count - 1);
+        let hint = match (&self.names.misfit, self.names.any()) {
+            (Some(misfit), false) => format!("; {misfit}"),
+            (None, false) => {
+                format!("; names are listed in the text, as '| {kind}s: NAME NAME', one for each")
+            }
+            (_, true) => ", or go by their names".into(),
+        };
         match self.names.number(word) {
             Some(number) if number < self.count => Ok(number),
-            _ if self.names.any() => Err(format!("{word} is no {kind}: they are 0 to {last}, or go by their names")),
-            _ => Err(format!(
-                "{word} is no {kind}: they are 0 to {last}; names are listed in the text, as '| {kind}s: NAME NAME', one for each"
-            )),
+            _ => Err(format!("{word} is no {kind}: they are 0 to {last}{hint}")),
         }
     }
 }

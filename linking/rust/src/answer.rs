@@ -141,7 +141,7 @@ mod tests {
 
     #[test]
     fn running_steps_are_read_without_the_reserved_bits() {
-        for word in with_reserved(0) {
+        for word in with_reserved(0).chain(with_reserved(0x1234_5678_abcd_0000)) {
             assert_eq!(progress(word), Ok(Progress::Running));
         }
     }
@@ -154,6 +154,9 @@ mod tests {
         };
         for word in with_reserved(0x1234_5678_abcd_0100) {
             assert_eq!(progress(word), Ok(ended));
+        }
+        for word in with_reserved(0x100) {
+            assert!(matches!(progress(word), Ok(Progress::Ended { .. })));
         }
     }
 

@@ -40,7 +40,7 @@ fn ceilings_are_those_of_the_page_and_of_the_second_program() {
         assert_eq!(plain(&printed[0]), ceiling(tasks).expect("a ceiling"));
         assert_eq!(plain(&printed[1]), at_begin(tasks));
         let text = drive(&["ceiling", &tasks.to_string()], b"").text();
-        assert_eq!(text.contains("the longest that occurs"), row[4] == row[5]);
+        assert_eq!(text.contains("the longest there is"), row[4] == row[5]);
     }
 }
 
@@ -58,21 +58,27 @@ fn another_number_of_tasks_is_refused() {
 
 #[test]
 fn the_ceilings_are_told_in_words() {
-    let told = |tasks: &str| drive(&["ceiling", tasks], b"").text();
-    assert_eq!(
-        told("1"),
-        "The own steps of an operation of one task that runs alone:\n    \
-             1,000  the ceiling of the contract; a count never passes it\n      \
-               193  proved for every table and every list of calls: no operation takes more\n       \
-                17  the longest that occurs: every schedule was explored\n"
-    );
-    assert!(told("2").ends_with("  the longest that occurs: every schedule was explored\n"));
-    assert!(
-        told("3").starts_with("The own steps of an operation of one of 3 tasks, whatever the others do:\n")
-    );
-    let argued = "  the longest that occurs: explored, with an argument for the schedules left out\n";
-    assert!(told("3").ends_with(argued));
-    assert!(told("4").ends_with("  the longest known: a search found it, and a longer one may exist\n"));
+    for (tasks, row) in (1..=8).zip(rows()) {
+        let subject = match tasks {
+            1 => "of one task that runs alone".to_string(),
+            _ => format!("of one of {tasks} tasks, whatever the others do"),
+        };
+        let how = match tasks {
+            1 | 2 => {
+                "the longest there is: all schedules on three tables; for other tables argued, not proved"
+            }
+            3 => "the longest there is: explored, and for schedules and tables left out argued, not proved",
+            _ => "the longest known: a search found it, and a longer one may exist",
+        };
+        let (ceiling, proved, longest) = (&row[2], &row[3], &row[5]);
+        let expected = format!(
+            "The own steps of an operation {subject}:\n\
+             {ceiling:>9}  the ceiling of the contract; a count never passes it\n\
+             {proved:>9}  proved for every table and every list of calls: no operation takes more\n\
+             {longest:>9}  {how}\n"
+        );
+        assert_eq!(drive(&["ceiling", &tasks.to_string()], b"").text(), expected);
+    }
 }
 
 /// A text of the chart, with its place from the left and from the top.

@@ -40,7 +40,51 @@ fn other_words_are_refused_with_the_right_ones() {
 }
 
 #[test]
+fn help_says_what_each_command_gives() {
+    let help = drive(&["--help"], b"").text();
+    let forms = help.lines().filter_map(|line| line.strip_prefix("  drive "));
+    let page = std::fs::read_to_string("README.md").expect("the page");
+    for form in forms {
+        let (form, gives) = form.split_once("  ").expect("two columns");
+        assert!(page.contains(&format!("| `drive {}` |", form.trim())), "{form}");
+        assert!(!gives.trim().is_empty());
+    }
+    assert!(help.contains("\nExit status: 0, or 1 if something was refused or could not be read;"));
+    assert_eq!(drive(&["run", "a", "b", "--help"], b"").text(), help);
+}
+
+#[test]
+fn what_cant_be_written_is_said() {
+    let full = std::fs::OpenOptions::new()
+        .write(true)
+        .open("/dev/full")
+        .expect("a device");
+    let mut command = std::process::Command::new(env!("CARGO_BIN_EXE_drive"));
+    let ran = command
+        .arg("--help")
+        .stdout(full)
+        .output()
+        .expect("the program ends");
+    let said = String::from_utf8_lossy(&ran.stderr).to_string();
+    assert_eq!(ran.status.code(), Some(1));
+    assert!(said.starts_with("drive: the output can't be written: "), "{said}");
+}
+
+#[test]
+fn the_standard_input_is_one_file() {
+    for command in ["run", "picture"] {
+        let said = drive(&[command, "-", "-"], b"").failure();
+        assert_eq!(said, "drive: the standard input can be only one of the files\n");
+    }
+}
+
+#[test]
 fn a_file_that_cant_be_read_is_named() {
+    let said = drive(&["check", "src"], b"").failure();
+    assert!(
+        said.starts_with("drive: src can't be read: Is a directory"),
+        "{said}"
+    );
     for words in [
         vec!["check", "no/table"],
         vec!["show", "no/table"],

@@ -80,6 +80,8 @@ pub struct Picture {
     /// Where the legend begins.
     pub legend: f64,
     pub rows: Vec<Row>,
+    /// The titles of the runs.
+    pub titles: Vec<String>,
     /// The small labels: of operations, cells and calls.
     pub labels: Vec<Label>,
     rectangles: Vec<Rectangle>,
@@ -154,6 +156,8 @@ impl Picture {
                 self.rows.push(Row::default());
             }
             self.row().lanes.push((text.into(), y - 4.0));
+        } else if element.word("font-size") == Some("13") {
+            self.titles.push(text.into());
         } else if element.word("font-size") == Some("9") {
             self.labels.push(Label {
                 x,

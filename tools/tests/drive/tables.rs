@@ -164,7 +164,10 @@ fn the_example_has_its_names() {
     assert_eq!(file, expected);
     assert_eq!(drive(&["show", "-"], &file).text(), without_comments(&text));
     let checked = drive(&["check", "-"], &file).text();
-    assert!(checked.contains("start state  down\n") && checked.contains("operation set    changing\n"));
+    assert!(
+        checked.contains("start state  0 down\n")
+            && checked.contains("\n\noperation 0 read   reading\noperation 1 set    changing\n")
+    );
 }
 
 /// A text of an object with one state and one operation, and lines besides.
@@ -216,10 +219,7 @@ fn a_text_that_is_no_object_is_refused() {
         ("operations 1\nstart 0\n", "there is no line 'states N'"),
         ("states 1\nstart 0\n", "there is no line 'operations N'"),
         ("states 1\noperations 1\n", "there is no line 'start STATE'"),
-        (
-            "states x\noperations 1\nstart 0\n",
-            "line 1: x is no number from 0 to 65535",
-        ),
+        ("states x\noperations 1\nstart 0\n", "line 1: x is no number"),
         (
             "states 257\noperations 1\nstart 0\n",
             &refused(Refusal::Dimensions),
@@ -240,4 +240,102 @@ fn a_text_that_is_no_object_is_refused() {
         drive(&["table", "-"], b"\xff").failure(),
         "drive: the text is not UTF-8\n"
     );
+}
+
+/// Two states and five operations with names; every operation leads to the state `b-2` but the last.
+const NAMED: &str = "| states: a_1 b-2
+| states: other names
+| operations: r s1 t u v
+states 2
+operations 5
+start b-2
+a_1 r -> b-2 0
+a_1 s1 -> b-2 1
+a_1 t -> b-2 2
+a_1 u -> b-2 3
+a_1 v -> a_1 4
+b-2 r -> b-2 5
+b-2 s1 -> b-2 6
+b-2 t -> b-2 7
+b-2 u -> b-2 8
+b-2 v -> b-2 9
+";
+
+#[test]
+fn names_have_digits_and_dashes_and_the_first_full_list_stands() {
+    let file = drive(&["table", "-"], NAMED.as_bytes()).out;
+    let shown = drive(&["show", "-"], &file).text();
+    assert!(
+        shown.contains("start b-2\n") && shown.contains("\na_1  s1  ->  b-2  1\n"),
+        "{shown}"
+    );
+    let checked = drive(&["check", "-"], &file).text();
+    assert!(
+        checked.contains("operation 1 s1  changing\noperation 2 t   changing\n"),
+        "{checked}"
+    );
+    assert!(checked.contains("operation 4 v   reading\n"), "{checked}");
+}
+
+#[test]
+fn other_line_ends_comments_and_hex_digits_give_the_same_file() {
+    let file = drive(&["table", "-"], NAMED.as_bytes()).out;
+    for text in [
+        NAMED.replace('\n', "\r\n"),
+        format!("#comment\n  # comment\n\n{NAMED}"),
+        NAMED.replace("| o", "| \\x6F"),
+    ] {
+        assert_eq!(drive(&["table", "-"], text.as_bytes()).out, file, "{text}");
+    }
+    let text = "| Sch\u{e4}cht \\xC3\\xa9\n".to_string() + NAMED;
+    let file = drive(&["table", "-"], text.as_bytes()).out;
+    assert!(drive(&["show", "-"], &file)
+        .text()
+        .starts_with("| Sch\u{e4}cht \u{e9}\n"));
+}
+
+#[test]
+fn errors_name_the_line_the_state_and_the_operation() {
+    let without = NAMED.replace("b-2 t -> b-2 7\n", "");
+    refused_with(&without, "there is no entry for operation t in state b-2");
+    refused_with(
+        &format!("{NAMED}a_1 u -> a_1 0\n"),
+        "line 17: state a_1 has operation u twice",
+    );
+    let operation = "line 14: w is no operation: they are 0 to 4, or go by their names";
+    refused_with(&NAMED.replace("b-2 t ->", "b-2 w ->"), operation);
+    refused_with(
+        &NAMED.replace("start b-2", "start c"),
+        "line 6: c is no state: they are 0 to 1, or go by their names",
+    );
+    for escape in ["\\x", "\\x4", "\\x4g", "\\x\u{e9}"] {
+        let reason = "line 1: a backslash stands before \\, before xNN, or at the end of a line";
+        refused_with(&format!("| {escape}\n"), reason);
+    }
+}
+
+#[test]
+fn a_list_that_names_nothing_is_told() {
+    for (list, reason) in [
+        ("up", "it has 1 names for 2"),
+        ("a b c", "it has 3 names for 2"),
+        ("up up", "up stands twice"),
+        ("up 1", "1 is no name"),
+    ] {
+        let misfit = format!("the text's line 'states:' is not used: {reason}");
+        let file = TableFile::flag()
+            .with_text(format!("states: {list}\n").into_bytes())
+            .to_bytes();
+        assert!(
+            drive(&["check", "-"], &file)
+                .text()
+                .contains(&format!("\nnote         {misfit}\n\n")),
+            "{list}"
+        );
+        let text = format!("| states: {list}\nstates 2\noperations 1\nstart left\n");
+        refused_with(
+            &text,
+            &format!("line 4: left is no state: they are 0 to 1; {misfit}"),
+        );
+    }
 }

@@ -3,11 +3,14 @@
 
 use crate::drawing::{Picture, Row};
 use crate::program::drive;
-use crate::second_run::{runs, Run, BARS, REST, STRETCHES};
+use crate::second_run::{runs, Operation, Run, BARS, REST, STRETCHES};
 use reference::script_cases::random_script;
 
 const SCRIPTS: u64 = 200;
 const LONGEST_ROW: usize = 100;
+
+/// The width of a letter of the small labels, at least.
+const SMALL_LETTER: f64 = 5.4;
 
 /// A row of a picture, and the calls of a run that it shows: those from `first` on.
 struct Shown<'a> {
@@ -85,18 +88,40 @@ impl Shown<'_> {
         }
     }
 
-    /// Every operation is named at the left end of its bar, with what it answers.
+    /// Every operation is named at the left end of its bar, with what it answers, as far as there is room before the next.
     fn operation_labels(&self) {
+        let end = self.first + self.calls();
         for operation in &self.run.operations {
             let column = operation.columns.0.max(self.first);
-            if column < operation.columns.1.min(self.first + self.calls()) {
-                let place = (
-                    self.x((column - self.first) as f64),
-                    self.task_line(operation.task) - 10.0,
-                );
-                let label = self.picture.label(place.0, place.1).expect("a label");
-                let expected = format!("{}\u{2192}{}", operation.number, operation.answer);
-                assert_eq!(label.replace("operation ", "").replace(' ', ""), expected);
+            if column >= operation.columns.1.min(end) {
+                continue;
+            }
+            let later =
+                |other: &&Operation| other.task == operation.task && other.columns.0 > operation.columns.0;
+            let next = self
+                .run
+                .operations
+                .iter()
+                .find(later)
+                .map_or(end, |other| other.columns.0.min(end));
+            let room = self.row.width() * (next - column) as f64;
+            let place = (
+                self.x((column - self.first) as f64),
+                self.task_line(operation.task) - 10.0,
+            );
+            let answer = format!("\u{2192}{}", operation.answer);
+            match self.picture.label(place.0, place.1) {
+                Some(label) => {
+                    let label = label.replace("operation ", "").replace(' ', "");
+                    assert!(
+                        label == answer || label == format!("{}{answer}", operation.number),
+                        "{label}"
+                    );
+                }
+                None => assert!(
+                    room < SMALL_LETTER * answer.chars().count() as f64,
+                    "{answer} has room"
+                ),
             }
         }
     }
@@ -155,7 +180,13 @@ fn compare(picture: &Picture, runs: &[Run]) -> usize {
     stacked(picture);
     let mut rows = picture.rows.iter();
     let mut long = 0;
-    for run in runs {
+    for (at, run) in runs.iter().enumerate() {
+        let (tasks, calls) = (run.tasks, run.calls.len());
+        let title = format!(
+            "Run {}, tasks: {tasks}, accepted calls of begin and step: {calls}",
+            at + 1
+        );
+        assert_eq!(picture.titles[at], title);
         let mut first = 0;
         loop {
             let row = rows.next().expect("a row");
