@@ -14,15 +14,19 @@ const BOTTOM: f64 = 390.0;
 const LOWEST: f64 = 1.0;
 const HIGHEST: f64 = 6.0;
 
-/// A line of the chart: colour, name, how far its numbers stand below its points, and the numbers.
-type Series = (&'static str, &'static str, f64, fn(&Limits) -> u64);
+/// A line of the chart: colour, name, where its numbers stand from its points, and the numbers.
+type Series = (&'static str, &'static str, (f64, f64, Anchor), fn(&Limits) -> u64);
+
+/// The lines rise: to the left above a point and to the right below it there is room.
+const ABOVE: (f64, f64, Anchor) = (-5.0, -5.0, Anchor::End);
+const BELOW: (f64, f64, Anchor) = (5.0, 13.0, Anchor::Start);
 
 const SERIES: [Series; 3] = [
-    ("#d62728", "ceiling of the contract", -8.0, |limits| {
+    ("#d62728", "ceiling of the contract", ABOVE, |limits| {
         limits.ceiling
     }),
-    ("#1f77b4", "proved bound", -8.0, |limits| limits.proved),
-    ("#2ca02c", "longest known", 16.0, |limits| limits.longest),
+    ("#1f77b4", "proved bound", ABOVE, |limits| limits.proved),
+    ("#2ca02c", "longest known", BELOW, |limits| limits.longest),
 ];
 
 fn x(tasks: usize) -> f64 {
@@ -46,7 +50,7 @@ pub fn chart() -> Result<String, String> {
         "Own steps of an operation, by the number of tasks (logarithmic scale)",
     );
     draw_scales(&mut drawing);
-    for (colour, name, below, of) in SERIES {
+    for (colour, name, (right, down, anchor), of) in SERIES {
         let points: Vec<(f64, f64)> = all
             .iter()
             .map(|limits| (x(limits.tasks), y(of(limits) as f64)))
@@ -59,12 +63,8 @@ pub fn chart() -> Result<String, String> {
                 colour,
                 &format!("{} tasks: {}", limits.tasks, grouped(of(limits))),
             );
-            drawing.text(
-                (point.0, point.1 + below),
-                10.0,
-                Anchor::Middle,
-                &grouped(of(limits)),
-            );
+            let place = (point.0 + right, point.1 + down);
+            drawing.text(place, 10.0, anchor, &grouped(of(limits)));
         }
         let (_, last) = points[points.len() - 1];
         drawing.text((RIGHT + 12.0, last + 4.0), 12.0, Anchor::Start, name);

@@ -92,7 +92,7 @@ fn text_at(line: &str) -> Option<(f64, f64, &str)> {
 fn height(chart: &str, steps: u32) -> f64 {
     let axis = chart
         .lines()
-        .filter(|line| line.contains("'end'"))
+        .filter(|line| line.contains("font-size='11'"))
         .filter_map(text_at);
     let axis: Vec<(f64, f64)> = axis
         .map(|(_, y, text)| (f64::from(plain(text)).log10(), y - 4.0))
@@ -134,7 +134,7 @@ fn the_chart_has_every_number_at_its_place() {
                 "{name} {row:?}"
             );
             let number = |text: &&(f64, f64, &str)| {
-                text.2 == row[column] && (text.0 - x).abs() < 0.2 && (text.1 - y).abs() < 20.0
+                text.2 == row[column] && (text.0 - x).abs() < 10.0 && (text.1 - y).abs() < 20.0
             };
             let tasks = |text: &&(f64, f64, &str)| text.2 == row[1] && (text.0 - x).abs() < 0.2;
             assert!(
