@@ -3,7 +3,7 @@
 use reference::cells::{Announcement, Head};
 use reference::machine::{Action, Outcome};
 use reference::trace::served_lines;
-use reference::trace_event::Event;
+use reference::trace_event::{Event, Step};
 
 pub const REST: &str = "#d9f2d9";
 pub const BARS: [&str; 3] = ["#fbe3c2", "#d8e4f2", "#f7f0e6"];
@@ -46,56 +46,50 @@ impl Run {
     }
 
     fn take(&mut self, event: &Event) {
-        let at = self.calls.len();
         match event {
             Event::Begun {
                 task,
                 operation,
                 changing,
-            } => {
-                let fill = BARS[usize::from(!changing)];
-                let (number, columns, answer) = (*operation, (at, usize::MAX), "pending".to_string());
-                self.operations.push(Operation {
-                    task: *task,
-                    number,
-                    columns,
-                    fill,
-                    answer,
-                });
-                self.call(
-                    Call {
-                        task: *task,
-                        step: None,
-                    },
-                    None,
-                );
-            }
-            Event::Stepped(step) => {
-                let shape = match (step.access.action, step.outcome) {
-                    (Action::Read, _) => "ring",
-                    (Action::Write(_), _) => "square",
-                    (_, Outcome::Swapped(false)) => "cross",
-                    _ => "disc",
-                };
-                let (cell, task) = (step.access.cell, step.task);
-                self.call(
-                    Call {
-                        task,
-                        step: Some((cell, shape)),
-                    },
-                    Some((cell, step.after)),
-                );
-            }
-            Event::Ended { task, response, .. } => {
-                let pending =
-                    |operation: &&mut Operation| operation.task == *task && operation.answer == "pending";
-                let ended = self.operations.iter_mut().find(pending).expect("an operation");
-                (ended.columns.1, ended.answer) = (at, response.to_string());
-                let rests = self.rests();
-                self.points.last_mut().expect("a point").1 = rests;
-            }
+            } => self.begin(*task, *operation, *changing),
+            Event::Stepped(step) => self.step(step),
+            Event::Ended { task, response, .. } => self.end(*task, response.to_string()),
             _ => {}
         }
+    }
+
+    fn begin(&mut self, task: usize, number: usize, changing: bool) {
+        self.operations.push(Operation {
+            task,
+            number,
+            columns: (self.calls.len(), usize::MAX),
+            fill: BARS[usize::from(!changing)],
+            answer: "pending".into(),
+        });
+        self.call(Call { task, step: None }, None);
+    }
+
+    fn step(&mut self, step: &Step) {
+        let shape = match (step.access.action, step.outcome) {
+            (Action::Read, _) => "ring",
+            (Action::Write(_), _) => "square",
+            (_, Outcome::Swapped(false)) => "cross",
+            _ => "disc",
+        };
+        let (task, cell) = (step.task, step.access.cell);
+        let call = Call {
+            task,
+            step: Some((cell, shape)),
+        };
+        self.call(call, Some((cell, step.after)));
+    }
+
+    fn end(&mut self, task: usize, answer: String) {
+        let pending = |operation: &&mut Operation| operation.task == task && operation.answer == "pending";
+        let ended = self.operations.iter_mut().find(pending).expect("an operation");
+        (ended.columns.1, ended.answer) = (self.calls.len(), answer);
+        let rests = self.rests();
+        self.points.last_mut().expect("a point").1 = rests;
     }
 
     fn call(&mut self, call: Call, written: Option<(usize, u64)>) {
