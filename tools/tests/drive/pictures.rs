@@ -1,7 +1,7 @@
 //! What the drawings of runs say: every step with its title, what marks and colours mean, names, and titles of runs. Where
 //! things stand in a drawing is compared in `timeline`.
 
-use crate::program::drive;
+use crate::program::{drive, drive_on};
 use reference::script_cases::random_script;
 use reference::trace::trace;
 
@@ -90,9 +90,7 @@ fn every_step_has_two_marks_with_its_colour_and_its_line() {
         if steps.is_empty() {
             continue;
         }
-        let path = format!("{}/picture.bin", env!("CARGO_TARGET_TMPDIR"));
-        std::fs::write(&path, table).expect("a file");
-        let picture = drive(&["picture", &path, "-"], &script.input).text();
+        let picture = drive_on("picture", &table, &script.input).text();
         well_formed(&picture);
         let expected = steps.iter().flat_map(|step| {
             let look = LOOKS
@@ -170,9 +168,7 @@ fn labels(picture: &str) -> Vec<&str> {
 #[test]
 fn states_and_operations_go_by_their_names() {
     let named = drive(&["table", "examples/flag.txt"], b"").out;
-    let path = format!("{}/named.bin", env!("CARGO_TARGET_TMPDIR"));
-    std::fs::write(&path, named).expect("a file");
-    let picture = drive(&["picture", &path, FLAG_RUN], b"").text();
+    let picture = drive(&["picture", "-", FLAG_RUN], &named).text();
     let operations = ["set \u{2192} 0", "read\u{2192}1", "clear \u{2192} 1"];
     let head = ["down", "up", "up", "down", "down"];
     let announcements = ["set", "0", "clear", "1"];

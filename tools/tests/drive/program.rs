@@ -2,6 +2,7 @@
 
 use std::io::Write;
 use std::process::{Command, Stdio};
+use std::sync::atomic::{AtomicUsize, Ordering};
 
 /// Exit status and output of a run.
 pub struct Ran {
@@ -44,4 +45,15 @@ pub fn drive(words: &[&str], input: &[u8]) -> Ran {
         out: output.stdout,
         err: String::from_utf8(output.stderr).expect("text"),
     }
+}
+
+/// Runs a command on a table, which is kept in a file meanwhile, and on lines from the standard input.
+pub fn drive_on(command: &str, table: &[u8], lines: &[u8]) -> Ran {
+    static FILES: AtomicUsize = AtomicUsize::new(0);
+    let number = FILES.fetch_add(1, Ordering::Relaxed);
+    let path = format!("{}/table-{number}.bin", env!("CARGO_TARGET_TMPDIR"));
+    std::fs::write(&path, table).expect("a file");
+    let ran = drive(&[command, &path, "-"], lines);
+    std::fs::remove_file(path).expect("the file was there");
+    ran
 }

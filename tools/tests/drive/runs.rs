@@ -1,10 +1,9 @@
 //! The stories of runs, compared with the second program line by line.
 
 use std::collections::BTreeSet;
-use std::path::PathBuf;
 
-use crate::program::drive;
-use reference::script_cases::{fixed_scripts, random_script, Script};
+use crate::program::drive_on;
+use reference::script_cases::{fixed_scripts, random_script};
 use reference::trace::trace;
 use reference::trace_event::refused;
 
@@ -12,13 +11,6 @@ const RANDOM_SCRIPTS: u64 = 300;
 
 /// All phases but the idle one.
 const PHASES: usize = 23;
-
-/// The table of a script as a file of its own.
-fn table_of(script: &Script, at: usize) -> PathBuf {
-    let path = PathBuf::from(env!("CARGO_TARGET_TMPDIR")).join(format!("table-{at}.bin"));
-    std::fs::write(&path, script.table.as_deref().unwrap_or(&[])).expect("a file");
-    path
-}
 
 /// The phase in a line of a step.
 fn phase(line: &str) -> Option<&str> {
@@ -32,10 +24,10 @@ fn run_tells_what_the_second_program_tells() {
     let scripts = fixed_scripts()
         .into_iter()
         .chain((0..RANDOM_SCRIPTS).map(random_script));
-    for (at, script) in scripts.enumerate() {
-        let table = table_of(&script, at);
-        let ran = drive(&["run", table.to_str().expect("a path"), "-"], &script.input);
-        match trace(script.table.as_deref().unwrap_or(&[]), &script.input) {
+    for script in scripts {
+        let table = script.table.unwrap_or_default();
+        let ran = drive_on("run", &table, &script.input);
+        match trace(&table, &script.input) {
             Ok(expected) => {
                 let told = ran.text();
                 assert!(
@@ -50,7 +42,6 @@ fn run_tells_what_the_second_program_tells() {
                 format!("drive: the table is {}\n", refused(refusal))
             ),
         }
-        std::fs::remove_file(table).expect("the file was there");
     }
     assert_eq!(phases.len(), PHASES, "{phases:?}");
 }

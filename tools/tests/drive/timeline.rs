@@ -2,7 +2,7 @@
 //! second program's run.
 
 use crate::drawing::{Picture, Row};
-use crate::program::drive;
+use crate::program::drive_on;
 use crate::second_run::{runs, Operation, Run, BARS, REST, STRETCHES};
 use reference::script_cases::random_script;
 
@@ -219,10 +219,7 @@ fn everything_stands_where_the_second_program_has_it() {
         if runs.is_empty() {
             continue;
         }
-        let path = format!("{}/timeline-{seed}.bin", env!("CARGO_TARGET_TMPDIR"));
-        std::fs::write(&path, table).expect("a file");
-        let picture = drive(&["picture", &path, "-"], &script.input).text();
-        std::fs::remove_file(path).expect("the file was there");
+        let picture = drive_on("picture", &table, &script.input).text();
         long += compare(&Picture::of(&picture), &runs);
         compared += runs.len();
     }
