@@ -2,6 +2,7 @@ pub mod Clash
 pub mod Choice
 pub mod Below
 pub mod Decision
+pub mod Bits
 pub mod Update
 pub mod Lists
 pub mod Tabulate
