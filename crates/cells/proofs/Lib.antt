@@ -5,6 +5,8 @@ pub mod Forms
 pub mod HeadLaws
 pub mod AnnouncementLaws
 pub mod WordMarks
+pub mod Linked
 pub mod Images
 pub mod Counts
 pub mod Ceilings
+pub mod Cases

@@ -1,14 +1,14 @@
 -- docs/FORMATS.md, "The bench": how many marks are set in all cells together.
-use mathlib.Core.Bool.{cond}
 use mathlib.Core.List.{List, [], _∷_}
 use Prim.Native.Nat.{ℕ, zero, suc, _+_}
+use Rattle.laws.specs.Bit.{bit}
 use Rattle.cells.specs.Layout.{marksWidth}
 use Rattle.cells.specs.Marks.{has}
 
 -- How many of the tasks below k have their mark in w.
 unfoldable pub marksBelow : ℕ → ℕ → ℕ
 marksBelow zero w = 0
-marksBelow (suc k) w = cond (has k w) 1 0 + marksBelow k w
+marksBelow (suc k) w = bit (has k w) + marksBelow k w
 
 -- How many marks are set in a word.
 unfoldable pub marksIn : ℕ → ℕ

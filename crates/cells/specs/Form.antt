@@ -19,22 +19,27 @@ marksInForm n w = ltb (marks w) (2 ^ n)
 unfoldable pub inForm : List ℕ → (List ℕ → Bool) → ℕ → ℕ → Bool
 inForm ws fields n w = ltb w (2 ^ total ws) && (marksInForm n w && fields (unpack ws w))
 
--- The state is below s, the holder within its bound, and without a holder the response is 0.
+-- Without a holder response and moved are 0; with one both may have any value.
+unfoldable pub outcomeInForm : (holder response moved : ℕ) → Bool
+outcomeInForm h r v = cond (eqb h 0) (eqb r 0 && eqb v 0) true
+
+-- The state is below s, the holder within its bound, and response and moved are in form.
 unfoldable pub headFieldsInForm : ℕ → ℕ → List ℕ → Bool
 headFieldsInForm s n vs =
-    ltb (getD vs 1 0) s && (leb (getD vs 3 0) (holderBound n) && cond (eqb (getD vs 3 0) 0) (eqb (getD vs 2 0) 0) true)
+    ltb (getD vs 1 0) s && (leb (getD vs 3 0) (holderBound n) && outcomeInForm (getD vs 3 0) (getD vs 2 0) (getD vs 4 0))
 
 -- A head in form.
 unfoldable pub headInForm : ℕ → ℕ → ℕ → Bool
 headInForm s n w = inForm headWidths (headFieldsInForm s n) n w
 
--- Kind 0 has payload 0, kind 1 an operation below m, kind 2 any response, and there is no other kind.
-unfoldable pub payloadInForm : ℕ → ℕ → ℕ → Bool
-payloadInForm m k p = cond (eqb k 0) (eqb p 0) (cond (eqb k 1) (ltb p m) (eqb k 2))
+-- Kind 0 has payload 0 and moved 0, kind 1 an operation below m and moved 0, kind 2 any response with any moved, and there is no
+-- other kind.
+unfoldable pub payloadInForm : (m kind payload moved : ℕ) → Bool
+payloadInForm m k p v = cond (eqb k 0) (eqb p 0 && eqb v 0) (cond (eqb k 1) (ltb p m && eqb v 0) (eqb k 2))
 
--- The bits between kind and payload are 0, and the payload is in form.
+-- The bits between kind and payload are 0, and payload and moved are in form.
 unfoldable pub announcementFieldsInForm : ℕ → List ℕ → Bool
-announcementFieldsInForm m vs = eqb (getD vs 2 0) 0 && payloadInForm m (getD vs 1 0) (getD vs 3 0)
+announcementFieldsInForm m vs = eqb (getD vs 2 0) 0 && payloadInForm m (getD vs 1 0) (getD vs 3 0) (getD vs 4 0)
 
 -- An announcement in form.
 unfoldable pub announcementInForm : ℕ → ℕ → ℕ → Bool

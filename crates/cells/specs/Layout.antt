@@ -4,6 +4,7 @@ use mathlib.Core.List.{List, [], _∷_}
 use Prim.Native.Nat.{ℕ, _+_, _-_, _/_, _%_, _^_}
 use lib.Dec.{eqb, ltb}
 use lib.ListN.{getD}
+use Rattle.laws.specs.Bit.{bit}
 use Rattle.cells.specs.Field.{pack, unpack}
 use Rattle.cells.specs.Marks.{has, add, remove}
 use Rattle.cells.specs.declared.head.Head.{Head}
@@ -24,6 +25,9 @@ responseWidth = 8
 abbrev pub holderWidth : ℕ
 holderWidth = 4
 
+abbrev pub movedWidth : ℕ
+movedWidth = 1
+
 abbrev pub kindWidth : ℕ
 kindWidth = 2
 
@@ -33,13 +37,13 @@ gapWidth = 6
 abbrev pub payloadWidth : ℕ
 payloadWidth = 8
 
--- A head has marks, state, response and holder, the lowest first.
+-- A head has marks, state, response, holder and whether the state moved, the lowest first.
 abbrev pub headWidths : List ℕ
-headWidths = marksWidth ∷ stateWidth ∷ responseWidth ∷ holderWidth ∷ []
+headWidths = marksWidth ∷ stateWidth ∷ responseWidth ∷ holderWidth ∷ movedWidth ∷ []
 
--- An announcement has marks, kind, bits that stay 0, and a payload.
+-- An announcement has marks, kind, bits that stay 0, a payload and whether the state moved.
 abbrev pub announcementWidths : List ℕ
-announcementWidths = marksWidth ∷ kindWidth ∷ gapWidth ∷ payloadWidth ∷ []
+announcementWidths = marksWidth ∷ kindWidth ∷ gapWidth ∷ payloadWidth ∷ movedWidth ∷ []
 
 -- The value of a cell is its word without the marks.
 abbrev pub value : ℕ → ℕ
@@ -67,16 +71,16 @@ removeMark i w = cond (ltb i marksWidth) (remove i w) w
 
 -- The values of a head's fields; the holder is 0 for none, else the task's number plus 1.
 abbrev pub headValues : Head → ℕ → List ℕ
-headValues (Free q) m = m ∷ q ∷ 0 ∷ 0 ∷ []
-headValues (Held q j r) m = m ∷ q ∷ r ∷ (j + 1) ∷ []
+headValues (Free q) m = m ∷ q ∷ 0 ∷ 0 ∷ 0 ∷ []
+headValues (Held q j r moved) m = m ∷ q ∷ r ∷ (j + 1) ∷ bit moved ∷ []
 
--- The head that these values of state, response and holder say.
-abbrev pub headAt : ℕ → ℕ → ℕ → Head
-headAt q r h = cond (eqb h 0) (Free q) (Held q (h - 1) r)
+-- The head that these values of state, response, holder and moved say.
+abbrev pub headAt : (state response holder moved : ℕ) → Head
+headAt q r h v = cond (eqb h 0) (Free q) (Held q (h - 1) r (eqb v 1))
 
 -- The head that a list of field values says.
 abbrev pub headFrom : List ℕ → Head
-headFrom vs = headAt (getD vs 1 0) (getD vs 2 0) (getD vs 3 0)
+headFrom vs = headAt (getD vs 1 0) (getD vs 2 0) (getD vs 3 0) (getD vs 4 0)
 
 -- The word of a head with these marks.
 unfoldable pub headWord : Head → ℕ → ℕ
@@ -88,13 +92,13 @@ headOf w = headFrom (unpack headWidths w)
 
 -- The values of an announcement's fields; the kind is 0 for empty, 1 for an operation, 2 for a response.
 abbrev pub announcementValues : Announcement → ℕ → List ℕ
-announcementValues Empty m = m ∷ 0 ∷ 0 ∷ 0 ∷ []
-announcementValues (Operation o) m = m ∷ 1 ∷ 0 ∷ o ∷ []
-announcementValues (Response r) m = m ∷ 2 ∷ 0 ∷ r ∷ []
+announcementValues Empty m = m ∷ 0 ∷ 0 ∷ 0 ∷ 0 ∷ []
+announcementValues (Operation o) m = m ∷ 1 ∷ 0 ∷ o ∷ 0 ∷ []
+announcementValues (Response r moved) m = m ∷ 2 ∷ 0 ∷ r ∷ bit moved ∷ []
 
--- The announcement that these values of kind and payload say; an unknown kind says nothing.
-abbrev pub announcementAt : ℕ → ℕ → Announcement
-announcementAt k p = cond (eqb k 1) (Operation p) (cond (eqb k 2) (Response p) Empty)
+-- The announcement that these values of kind, payload and moved say; an unknown kind says nothing.
+abbrev pub announcementAt : (kind payload moved : ℕ) → Announcement
+announcementAt k p v = cond (eqb k 1) (Operation p) (cond (eqb k 2) (Response p (eqb v 1)) Empty)
 
 -- The kind that a word's field holds.
 abbrev pub kindIn : ℕ → ℕ
@@ -102,7 +106,7 @@ kindIn w = getD (unpack announcementWidths w) 1 0
 
 -- The announcement that a list of field values says.
 abbrev pub announcementFrom : List ℕ → Announcement
-announcementFrom vs = announcementAt (getD vs 1 0) (getD vs 3 0)
+announcementFrom vs = announcementAt (getD vs 1 0) (getD vs 3 0) (getD vs 4 0)
 
 -- The word of an announcement with these marks.
 unfoldable pub announcementWord : Announcement → ℕ → ℕ

@@ -5,3 +5,4 @@ pub mod Form
 pub mod Image
 pub mod Count
 pub mod Ceiling
+pub mod Cases

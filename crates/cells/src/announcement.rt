@@ -1,4 +1,5 @@
-// The announcement of a task: nothing, an operation that is to be applied, or its response.
+// The announcement of a task: nothing, an operation that is to be applied, or its response and whether it moved the state.
+use crate::bit;
 use crate::layout;
 ghost use mathlib.Core.Path.{_≡_};
 ghost use Rattle.cells.specs.Layout.{announcementWord, announcementOf};
@@ -6,7 +7,7 @@ ghost use Rattle.cells.specs.Layout.{announcementWord, announcementOf};
 pub enum Announcement {
     Empty,
     Operation(u16),
-    Response(u16),
+    Response(u16, bool),
 }
 
 // The word of an announcement with these marks.
@@ -18,9 +19,10 @@ pub fn announcement_word(announcement: Announcement, marks: u8) -> u64
         Announcement::Operation(o) => marks as u64
             + layout::KIND_PLACE
             + o as u64 * layout::PAYLOAD_PLACE,
-        Announcement::Response(r) => marks as u64
+        Announcement::Response(r, moved) => marks as u64
             + 2 * layout::KIND_PLACE
-            + r as u64 * layout::PAYLOAD_PLACE,
+            + r as u64 * layout::PAYLOAD_PLACE
+            + bit::bit_of(moved) as u64 * layout::ANNOUNCEMENT_MOVED_PLACE,
     }
 }
 
@@ -30,9 +32,10 @@ pub fn read_announcement(word: u64) -> Announcement
 {
     let kind = word / layout::KIND_PLACE % layout::KIND_SIZE;
     let payload = (word / layout::PAYLOAD_PLACE % layout::PAYLOAD_SIZE) as u16;
+    let moved = word / layout::ANNOUNCEMENT_MOVED_PLACE % layout::MOVED_SIZE == 1;
     match kind {
         1 => Announcement::Operation(payload),
-        2 => Announcement::Response(payload),
+        2 => Announcement::Response(payload, moved),
         _ => Announcement::Empty,
     }
 }

@@ -1,6 +1,8 @@
 // Which words are in form.
 use crate::layout;
+ghost use mathlib.Core.Bool.{_&&_};
 ghost use mathlib.Core.Path.{_≡_};
+ghost use lib.Dec.{eqb};
 ghost use Rattle.cells.specs.Form.{headInForm, announcementInForm, marksInForm};
 
 // The largest number that a holder field may have.
@@ -16,6 +18,16 @@ fn marks_in_form(word: u64, tasks: usize) -> bool
     word % layout::MARKS_SIZE < 1 << tasks
 }
 
+// Whether the other field fits, and the bit that says that the state moved is 0.
+fn fits_unmoved(fits: bool, moved: u64) -> bool
+    ensures { λ r. ⌜ r ≡ (fits && eqb moved 0) ⌝ }
+{
+    if fits {
+        return moved == 0;
+    }
+    false
+}
+
 // Whether a head is in form, for a table with `states` states.
 pub fn head_in_form(word: u64, states: u32, tasks: usize) -> bool
     ensures { λ r. ⌜ r ≡ headInForm states tasks word ⌝ }
@@ -23,6 +35,7 @@ pub fn head_in_form(word: u64, states: u32, tasks: usize) -> bool
     let state = word / layout::STATE_PLACE % layout::STATE_SIZE;
     let response = word / layout::RESPONSE_PLACE % layout::RESPONSE_SIZE;
     let holder = word / layout::HOLDER_PLACE % layout::HOLDER_SIZE;
+    let moved = word / layout::HEAD_MOVED_PLACE % layout::MOVED_SIZE;
     if word >= layout::HEAD_SIZE {
         return false;
     }
@@ -36,7 +49,7 @@ pub fn head_in_form(word: u64, states: u32, tasks: usize) -> bool
         return false;
     }
     if holder == 0 {
-        return response == 0;
+        return fits_unmoved(response == 0, moved);
     }
     true
 }
@@ -48,6 +61,7 @@ pub fn announcement_in_form(word: u64, operations: u32, tasks: usize) -> bool
     let kind = word / layout::KIND_PLACE % layout::KIND_SIZE;
     let gap = word / layout::GAP_PLACE % layout::GAP_SIZE;
     let payload = word / layout::PAYLOAD_PLACE % layout::PAYLOAD_SIZE;
+    let moved = word / layout::ANNOUNCEMENT_MOVED_PLACE % layout::MOVED_SIZE;
     if word >= layout::ANNOUNCEMENT_SIZE {
         return false;
     }
@@ -58,8 +72,8 @@ pub fn announcement_in_form(word: u64, operations: u32, tasks: usize) -> bool
         return false;
     }
     match kind {
-        0 => payload == 0,
-        1 => payload < operations as u64,
+        0 => fits_unmoved(payload == 0, moved),
+        1 => fits_unmoved(payload < operations as u64, moved),
         2 => true,
         _ => false,
     }

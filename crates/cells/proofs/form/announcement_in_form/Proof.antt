@@ -1,10 +1,10 @@
 use mathlib.Core.Path.{_≡_, sym, _∙_}
-use borrow.Author.Needs.{needs}
 use borrow.Author.Tests.{lt-ltb, le-ltb, eq-eqb, ne-eqb, not-true, not-false}
 use Rattle.cells.specs.Field.{total}
 use Rattle.cells.specs.Form.{inForm, announcementInForm, announcementFieldsInForm, payloadInForm}
 use Rattle.cells.specs.Layout.{announcementWidths}
 use Rattle.cells.proofs.Fields.{unpackAt, unpack-places}
+use borrow.Author.Needs.{needs}
 use Rattle.cells.proofs.form.announcement_in_form.Statement.{statement}
 use Rattle.cells.proofs.form.announcement_in_form.Tie as tie
 
@@ -33,13 +33,19 @@ returns-3 : tie.Need-returns-3
 unfolding announcementFieldsInForm payloadInForm unpackAt
 returns-3 c = rw (within (c .before)) (simp (ne-eqb _ _ (c .if3 .taken)))
 
+fits-unmoved-requires : tie.Need-fits-unmoved-requires
+fits-unmoved-requires c κs = search needs
+
+fits-unmoved-requires-2 : tie.Need-fits-unmoved-requires-2
+fits-unmoved-requires-2 c κs = search needs
+
 returns-4 : tie.Need-returns-4
 unfolding announcementFieldsInForm payloadInForm unpackAt
-returns-4 c = rw (within (c .before .before)) (simp (eq-eqb _ _ (c .before .if3 .left), c .match .keys1))
+returns-4 c = rw (c .fits-unmoved .ensures, within (c .before .before .before)) (simp (eq-eqb _ _ (c .before .before .if3 .left), c .before .match .keys1))
 
 returns-5 : tie.Need-returns-5
 unfolding announcementFieldsInForm payloadInForm unpackAt
-returns-5 c = rw (within (c .before .before)) (simp (eq-eqb _ _ (c .before .if3 .left), c .match .keys2))
+returns-5 c = rw (c .fits-unmoved2 .ensures, within (c .before .before .before)) (simp (eq-eqb _ _ (c .before .before .if3 .left), c .before .match .keys2))
 
 returns-6 : tie.Need-returns-6
 unfolding announcementFieldsInForm payloadInForm unpackAt
@@ -52,4 +58,14 @@ returns-7 c = rw (within (c .before .before)) (simp (eq-eqb _ _ (c .before .if3 
 pub announcement-in-form-spec : {M : Type 1} → statement M
 announcement-in-form-spec =
     tie.close
-    (tie.spec returns marks-in-form-requires returns-2 returns-3 returns-4 returns-5 returns-6 returns-7)
+    (tie.spec
+    returns
+    marks-in-form-requires
+    returns-2
+    returns-3
+    fits-unmoved-requires
+    fits-unmoved-requires-2
+    returns-4
+    returns-5
+    returns-6
+    returns-7)

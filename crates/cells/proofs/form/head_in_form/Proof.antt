@@ -1,12 +1,12 @@
 use mathlib.Core.Path.{_≡_, sym, _∙_}
 use native.Mathlib.Omega.{arith}
-use borrow.Author.Needs.{needs}
 use borrow.Author.Tests.{lt-ltb, le-ltb, le-leb, lt-leb, eq-eqb, ne-eqb, not-true, not-false}
 use lib.ListN.{getD}
 use Rattle.cells.specs.Field.{total}
-use Rattle.cells.specs.Form.{holderBound, inForm, headInForm, headFieldsInForm}
+use Rattle.cells.specs.Form.{holderBound, inForm, outcomeInForm, headInForm, headFieldsInForm}
 use Rattle.cells.specs.Layout.{headWidths}
 use Rattle.cells.proofs.Fields.{unpackAt, unpack-places}
+use borrow.Author.Needs.{needs}
 use Rattle.cells.proofs.form.head_in_form.Statement.{statement}
 use Rattle.cells.proofs.form.head_in_form.Tie as tie
 
@@ -46,16 +46,19 @@ returns-4 c =
     let h = getD (unpackAt 1 headWidths (a .word)) 3 0 in
     rw (within (c .before .before)) (simp (lt-ltb q (a .states) (omega arith), lt-leb h (holderBound (a .tasks)) (omega arith)))
 
+fits-unmoved-requires : tie.Need-fits-unmoved-requires
+fits-unmoved-requires c κs = search needs
+
 returns-5 : tie.Need-returns-5
-unfolding headFieldsInForm unpackAt
+unfolding headFieldsInForm outcomeInForm unpackAt
 returns-5 c =
-    let a = c .before .before .before .before .before .before .args in
+    let a = c .before .before .before .before .before .before .before .args in
     let q = getD (unpackAt 1 headWidths (a .word)) 1 0 in
     let h = getD (unpackAt 1 headWidths (a .word)) 3 0 in
-    rw (within (c .before .before .before)) (simp (lt-ltb q (a .states) (omega arith), le-leb h (holderBound (a .tasks)) (omega arith), eq-eqb h 0 (omega arith)))
+    rw (c .fits-unmoved .ensures, within (c .before .before .before .before)) (simp (lt-ltb q (a .states) (omega arith), le-leb h (holderBound (a .tasks)) (omega arith), eq-eqb h 0 (omega arith)))
 
 returns-6 : tie.Need-returns-6
-unfolding headFieldsInForm unpackAt
+unfolding headFieldsInForm outcomeInForm unpackAt
 returns-6 c =
     let a = c .before .before .before .before .before .before .args in
     let q = getD (unpackAt 1 headWidths (a .word)) 1 0 in
@@ -65,4 +68,12 @@ returns-6 c =
 pub head-in-form-spec : {M : Type 1} → statement M
 head-in-form-spec =
     tie.close
-    (tie.spec returns marks-in-form-requires returns-2 returns-3 returns-4 returns-5 returns-6)
+    (tie.spec
+    returns
+    marks-in-form-requires
+    returns-2
+    returns-3
+    returns-4
+    fits-unmoved-requires
+    returns-5
+    returns-6)

@@ -1,7 +1,7 @@
 use native.Mathlib.Omega.{arith}
-use borrow.Author.Needs.{needs}
 use Rattle.cells.specs.Field.{pack}
 use Rattle.cells.specs.Layout.{headWord}
+use borrow.Author.Needs.{needs}
 use Rattle.cells.proofs.head.head_word.Statement.{statement}
 use Rattle.cells.proofs.head.head_word.Tie as tie
 
@@ -50,13 +50,25 @@ mul-result-4 c = search needs
 add-result-5 : tie.Need-add-result-5
 add-result-5 c = search needs
 
+bit-of-requires : tie.Need-bit-of-requires
+bit-of-requires c κs = search needs
+
+cast-result-5 : tie.Need-cast-result-5
+cast-result-5 c = search needs
+
+mul-result-5 : tie.Need-mul-result-5
+mul-result-5 c = search needs
+
+add-result-6 : tie.Need-add-result-6
+add-result-6 c = search needs
+
 returns : tie.Need-returns
 unfolding headWord pack
 returns c = rw (c .before .head .given .1) (omega arith)
 
 returns-2 : tie.Need-returns-2
 unfolding headWord pack
-returns-2 c = rw (c .before .head2 .given .1) (omega arith)
+returns-2 c = rw (c .before .before .head2 .given .1) (omega (arith, c .bit-of .ensures))
 
 pub head-word-spec : {M : Type 1} → statement M
 head-word-spec =
@@ -77,5 +89,9 @@ head-word-spec =
     add-result-4
     mul-result-4
     add-result-5
+    bit-of-requires
+    cast-result-5
+    mul-result-5
+    add-result-6
     returns
     returns-2)
