@@ -1,11 +1,12 @@
 -- docs/FORMATS.md, "Cases": the marked cases about the object file. The table of all marked cases, which needs later
 -- definitions, is that of the crate stepping.
 use Prim.Native.Nat.{ℕ, _*_, _/_, _%_}
-use mathlib.Core.Bool.{cond}
 use mathlib.Core.List.{List, [], _∷_, _++_}
 use lib.ListN.{replicate, drop, set}
+use Rattle.laws.specs.Bit.{bit}
+use Rattle.laws.specs.Case.{Case, case}
 use Rattle.table.specs.File.{shapeOf}
-use Rattle.table.specs.Entries.{changing}
+use Rattle.table.specs.Entries.{moves, changing}
 use Rattle.table.specs.Check.{checkOf, checkSaid}
 
 -- The flag object's entries.
@@ -32,15 +33,11 @@ number file = checkSaid (checkOf file) .number
 
 -- 1 if an operation of a file is changing, 0 if it is reading.
 unfoldable pub changes : List ℕ → ℕ → ℕ
-changes file operation = cond (changing file (shapeOf file) operation) 1 0
+changes file operation = bit (changing file (shapeOf file) operation)
 
--- A case: what the definitions give, and what the page says.
-pub record Case : Type 0 where
-  pub given : ℕ
-  pub said : ℕ
-
-unfoldable pub case : ℕ → ℕ → Case
-case given said = record { given = given; said = said }
+-- 1 if an operation moves a state of a file, 0 if it doesn't.
+unfoldable pub moved : List ℕ → (state operation : ℕ) → ℕ
+moved file state operation = bit (moves file (shapeOf file) state operation)
 
 unfoldable pub fileCases : List Case
 fileCases =
@@ -60,4 +57,11 @@ fileCases =
     -- The flag's operation 2 is changing, 0 is reading.
     ∷ case (changes flag 2) 1
     ∷ case (changes flag 0) 0
+    -- The flag is moved by a set in 0 and a clear in 1; not by a set in 1, a clear in 0, or a read.
+    ∷ case (moved flag 0 1) 1
+    ∷ case (moved flag 1 1) 0
+    ∷ case (moved flag 1 2) 1
+    ∷ case (moved flag 0 2) 0
+    ∷ case (moved flag 0 0) 0
+    ∷ case (moved flag 1 0) 0
     ∷ []

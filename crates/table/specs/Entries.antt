@@ -1,4 +1,5 @@
--- docs/FORMATS.md, "The object table": the entries, which next states are in range, and which operations are changing.
+-- docs/FORMATS.md, "The object table": the entries, which next states are in range, where an operation moves the state, and
+-- which operations are changing.
 use mathlib.Core.Bool.{Bool, not}
 use mathlib.Core.List.{List}
 use Prim.Native.Nat.{ℕ, _+_, _*_}
@@ -33,7 +34,10 @@ operationInRange file shape operation = allBelow (shape .states) (λ state. entr
 unfoldable pub entriesInRange : List ℕ → Shape → Bool
 entriesInRange file shape = allBelow (shape .operations) (operationInRange file shape)
 
--- In some state of the table the operation's next state differs from that state; otherwise the operation is reading.
+-- The entry of a state and an operation has a next state other than that state: the operation moves the state there.
+unfoldable pub moves : List ℕ → Shape → ℕ → ℕ → Bool
+moves file shape state operation = not (eqb (entryOf file shape state operation .next) state)
+
+-- The operation moves some state of the table; otherwise the operation is reading.
 unfoldable pub changing : List ℕ → Shape → ℕ → Bool
-changing file shape operation =
-    anyBelow (shape .states) (λ state. not (eqb (entryOf file shape state operation .next) state))
+changing file shape operation = anyBelow (shape .states) (λ state. moves file shape state operation)

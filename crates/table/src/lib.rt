@@ -6,7 +6,7 @@ ghost use mathlib.Core.Path.{_≡_};
 ghost use Prim.Native.Nat.{_-_, _*_, _<_, _^_};
 ghost use Rattle.table.specs.File.{byteAt, number16, trailerBytes, endsInMark, shapeOf};
 ghost use Rattle.table.specs.Layout.{fileFits, dimensionsFit, lengthFits, layoutOf};
-ghost use Rattle.table.specs.Entries.{entryOf, entryInRange, operationInRange, entriesInRange, changing};
+ghost use Rattle.table.specs.Entries.{entryOf, entryInRange, operationInRange, entriesInRange, moves, changing};
 ghost use Rattle.table.specs.Check.{checkOf};
 
 const TRAILER_BYTES: usize = 16;
@@ -249,15 +249,22 @@ pub fn check(file: &[u8]) -> Checked
     }
 }
 
-// Whether an operation's next state differs from the state in some state of the table; otherwise it is reading.
+// Whether an operation leads from a state to another one.
+pub fn moves_state(file: &[u8], shape: Shape, state: u16, operation: u16) -> bool
+    ensures { λ r. ⌜ r ≡ moves (now (file .entry)) shape state operation ⌝ }
+{
+    let entry = read_entry(file, shape, state, operation);
+    entry.next != state
+}
+
+// Whether an operation moves some state of the table; otherwise it is reading.
 pub fn is_changing(file: &[u8], shape: Shape, operation: u16) -> bool
     ensures { λ r. ⌜ r ≡ changing (now (file .entry)) shape operation ⌝ }
 {
     let states = shape.states;
     let mut state: u16 = 0;
     while state < states {
-        let entry = read_entry(file, shape, state, operation);
-        if entry.next != state {
+        if moves_state(file, shape, state, operation) {
             return true;
         }
         state += 1;

@@ -1,40 +1,33 @@
--- The loop has found the state unchanged at every state passed.
+-- The loop has found that no state passed is moved.
 use Prim.Native.Nat.{ℕ, _≤_, _<_, _-_}
-use mathlib.Core.Path.{_≡_, sym, ap, _∙_}
-use mathlib.Core.Bool.{Bool, false, not}
+use mathlib.Core.Path.{_≡_, sym, _∙_}
+use mathlib.Core.Bool.{false}
 use native.Mathlib.Omega.{arith}
 use borrow.Author.Count.{below-more}
 use borrow.Author.Needs.{needs}
-use borrow.Author.Tests.{eq-eqb, ne-eqb}
-use lib.Dec.{eqb}
-use Rattle.table.specs.declared.Entry.{Entry}
 use Rattle.laws.proofs.Below.{any-of, not-any}
-use Rattle.table.specs.Entries.{entryOf, changing}
+use Rattle.table.specs.Entries.{moves, changing}
 use Rattle.table.proofs.is_changing.Statement.{statement}
 use Rattle.table.proofs.is_changing.Tie as tie
 
 abbrev Inv-loop : tie.InvT-loop
-Inv-loop file shape operation states state₀ state =
-    (state ≤ states) × ((k : ℕ) → k < state → not (eqb (entryOf file shape k operation .next) k) ≡ false)
+Inv-loop file shape operation states state₀ state = (state ≤ states) × ((k : ℕ) → k < state → moves file shape k operation ≡ false)
 
 abbrev μ-loop : tie.MeasureT-loop
 μ-loop file shape operation states state₀ state = states - state
 
-abbrev differs : ℕ → Entry → Bool
-differs state entry = not (eqb (entry .next) state)
-
 loop-holds : tie.Need-loop-holds Inv-loop μ-loop
 loop-holds c = (omega arith, λ k h. absurd (omega arith))
 
-read-entry-requires : tie.Need-read-entry-requires Inv-loop μ-loop
-read-entry-requires c κs = search needs
+moves-state-requires : tie.Need-moves-state-requires Inv-loop μ-loop
+moves-state-requires c κs = search needs
 
 returns : tie.Need-returns Inv-loop μ-loop
 unfolding changing
 returns c =
-    let b = c .before .before in
+    let b = c .before in
     let l = b .before .before .loop in
-    sym (any-of _ _ (l .state) (b .before .loop-test .taken) (sym (ap (differs (l .state)) (b .read-entry .ensures)) ∙ ap not (ne-eqb _ _ (c .if1 .taken))))
+    sym (any-of _ _ (l .state) (b .before .loop-test .taken) (sym (b .moves-state .ensures) ∙ c .if1 .taken))
 
 add-state : tie.Need-add-state Inv-loop μ-loop
 add-state c = omega arith
@@ -44,9 +37,9 @@ loop-less c = omega arith
 
 loop-again : tie.Need-loop-again Inv-loop μ-loop
 loop-again c =
-    let b = c .before .before in
+    let b = c .before in
     let l = b .before .before .loop in
-    (omega arith, below-more _ _ (l .inv .1) (sym (ap (differs (l .state)) (b .read-entry .ensures)) ∙ ap not (eq-eqb _ _ (c .if1 .left))))
+    (omega arith, below-more _ _ (l .inv .1) (sym (b .moves-state .ensures) ∙ c .if1 .left))
 
 returns-2 : tie.Need-returns-2 Inv-loop μ-loop
 unfolding changing
@@ -59,7 +52,7 @@ is-changing-spec =
     Inv-loop
     μ-loop
     loop-holds
-    read-entry-requires
+    moves-state-requires
     returns
     add-state
     loop-less
