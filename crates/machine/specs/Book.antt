@@ -3,6 +3,7 @@ use mathlib.Core.Path.{_≡_}
 use mathlib.Core.List.{List, [], _∷_, _++_}
 use Prim.Native.Nat.{ℕ, suc, _<_}
 use Rattle.laws.specs.Update.{update}
+use Rattle.machine.specs.Outcome.{Outcome}
 use Rattle.machine.specs.Object.{Object}
 use Rattle.machine.specs.Calls.{Call, Begin, Step, Answer, Begun, Running, Ended, Refused, Event}
 
@@ -12,11 +13,11 @@ pub record Operation : Type 0 where
   pub task : ℕ
   pub operation : ℕ
 
--- A task's page: idle, waiting with an operation, or done with a response; the last two with a count of steps.
+-- A task's page: idle, waiting with an operation, or done with an outcome; the last two with a count of steps.
 pub data Page : Type 0 where
   Idle : Page
   Waiting : (operation : Operation) (steps : ℕ) → Page
-  Done : (response steps : ℕ) → Page
+  Done : (outcome : Outcome) (steps : ℕ) → Page
 
 -- The book: a state, the order of the operations entered so far, and a page for each task.
 pub record Book : Type 0 where
@@ -32,7 +33,7 @@ blank q = record { state = q; order = []; page = λ _. Idle }
 abbrev pub turned : ℕ → Page → Book → Book
 turned t p k = record { state = k .state; order = k .order; page = update (k .page) t p }
 
--- A waiting task is entered: the object gives its response and the new state, and its operation goes to the end of the order.
+-- A waiting task is entered: the object gives its outcome and the new state, and its operation goes to the end of the order.
 abbrev pub entered : Object → ℕ → Operation → ℕ → Book → Book
 entered b t x s k = record {
   state = b .next (k .state) (x .operation);
@@ -52,8 +53,8 @@ pub data Booking (b : Object) (n place : ℕ) (k : Book) : Call → Answer → B
   begin-operation : {t o : ℕ} → t < n → (o < b .operations → ⊥) → Booking b n place k (Begin t o) (Refused 8) k
   begin-pending : {t o : ℕ} → t < n → o < b .operations → (k .page t ≡ Idle → ⊥) → Booking b n place k (Begin t o) (Refused 9) k
   running-waiting : {t s : ℕ} {x : Operation} → t < n → k .page t ≡ Waiting x s → Booking b n place k (Step t) Running (turned t (Waiting x (suc s)) k)
-  running-done : {t r s : ℕ} → t < n → k .page t ≡ Done r s → Booking b n place k (Step t) Running (turned t (Done r (suc s)) k)
-  ended : {t r s : ℕ} → t < n → k .page t ≡ Done r s → Booking b n place k (Step t) (Ended r (suc s)) (turned t Idle k)
+  running-done : {t : ℕ} {r : Outcome} {s : ℕ} → t < n → k .page t ≡ Done r s → Booking b n place k (Step t) Running (turned t (Done r (suc s)) k)
+  ended : {t : ℕ} {r : Outcome} {s : ℕ} → t < n → k .page t ≡ Done r s → Booking b n place k (Step t) (Ended r (suc s)) (turned t Idle k)
   step-task : {t : ℕ} → (t < n → ⊥) → Booking b n place k (Step t) (Refused 7) k
   step-idle : {t : ℕ} → t < n → k .page t ≡ Idle → Booking b n place k (Step t) (Refused 10) k
 

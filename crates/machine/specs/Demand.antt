@@ -4,6 +4,7 @@ use mathlib.Core.Path.{_≡_}
 use mathlib.Core.List.{List, [], _∷_, _++_}
 use Prim.Native.Nat.{ℕ, suc, _<_}
 use lib.ListN.{length}
+use Rattle.machine.specs.Outcome.{Outcome}
 use Rattle.machine.specs.Object.{Object}
 use Rattle.machine.specs.Calls.{Call, Step, Answer, Begun, Running, Ended, Refused, Event}
 use Rattle.machine.specs.Book.{Operation, Book, blank, Legal}
@@ -43,4 +44,4 @@ pub record Demand (b : Object) (n q ceiling : ℕ) {C : Type 0} (image : ℕ →
   pub accepted : (xs : List Call) (t o s : ℕ) → pending (run .history xs) t ≡ Pends o s → StepAccepted (run .answer xs (Step t))
   pub below : (xs : List Call) (t o s : ℕ) → pending (run .history xs) t ≡ Pends o s → s < ceiling
   -- The count that *ended* answers is that of the own steps since begin, this one counted; so it is at most the ceiling.
-  pub count : (xs : List Call) (t o s r k : ℕ) → pending (run .history xs) t ≡ Pends o s → run .answer xs (Step t) ≡ Ended r k → k ≡ suc s
+  pub count : (xs : List Call) (t o s : ℕ) (r : Outcome) (k : ℕ) → pending (run .history xs) t ≡ Pends o s → run .answer xs (Step t) ≡ Ended r k → k ≡ suc s

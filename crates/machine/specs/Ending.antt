@@ -4,6 +4,7 @@ use mathlib.Core.Bool.{true}
 use mathlib.Core.Logic.{_↔_}
 use mathlib.Core.List.{List, [], _∷_, _++_}
 use Prim.Native.Nat.{ℕ, _<_}
+use Rattle.machine.specs.Outcome.{Outcome}
 use Rattle.machine.specs.Object.{Object}
 use Rattle.machine.specs.Calls.{Call, Step, Ended}
 use Rattle.machine.specs.History.{Pends, pending}
@@ -13,12 +14,12 @@ use Rattle.machine.specs.Demand.{Shown}
 pub record EndsChanging (b : Object) {C : Type 0} (run : Shown C) (xs : List Call) (x : Call) (t : ℕ) : Type 0 where
   pub operation : ℕ
   pub steps : ℕ
-  pub response : ℕ
+  pub outcome : Outcome
   pub count : ℕ
   pub step : x ≡ Step t
   pub pends : pending (run .history xs) t ≡ Pends operation steps
   pub changes : b .changing operation ≡ true
-  pub ended : run .answer xs x ≡ Ended response count
+  pub ended : run .answer xs x ≡ Ended outcome count
 
 -- At every point and for every call: the announcement of one of n tasks isn't empty before the call and is empty after it
 -- exactly if the call is such a step of that task.

@@ -9,16 +9,16 @@ use Rattle.machine.specs.Machine.{Phase, Idle, ReadOnly, Announce, Poll,
 use Rattle.machine.specs.Kind.{Kind, Off, Reading, Opening, Looping, Exiting, Retracting, kind}
 use Rattle.machine.specs.Run.{Config, idleTask}
 
--- The head's state is good, its holder is a task, and its outcome is within the object's bound.
+-- The head's state is good, its holder is a task, and its response is within the object's bound.
 abbrev pub HeadValueFormed : Object → ℕ → HeadValue → Type 0
 HeadValueFormed b n (Free q) = b .good q ≡ true
-HeadValueFormed b n (Held q j r) = (b .good q ≡ true) × (j < n) × (r < b .outcomes)
+HeadValueFormed b n (Held q j r) = (b .good q ≡ true) × (j < n) × (r .response < b .outcomes)
 
 -- An announced operation is one of the object's, and a response is within its bound.
 abbrev pub ContentFormed : Object → Content → Type 0
 ContentFormed b Empty = Unit {0}
 ContentFormed b (Op o) = o < b .operations
-ContentFormed b (Resp v) = v < b .outcomes
+ContentFormed b (Resp v) = v .response < b .outcomes
 
 -- A cell: its value is in form, and only the n tasks have marks.
 pub record CellFormed {A : Type 0} (n : ℕ) (ValueFormed : A → Type 0) (c : Cell A) : Type 0 where
@@ -58,11 +58,11 @@ PhaseFormed b n (Release h j a) = HeadFormed b n h × (j < n) × AnnouncementFor
 PhaseFormed b n (ReloadRelease h j a) = HeadFormed b n h × (j < n) × AnnouncementFormed b n a
 PhaseFormed b n (ClearHead h j) = HeadFormed b n h × (j < n)
 PhaseFormed b n (ReloadClear h j) = HeadFormed b n h × (j < n)
-PhaseFormed b n (LoadExit v) = v < b .outcomes
-PhaseFormed b n (LinkExit h v) = HeadFormed b n h × (v < b .outcomes)
-PhaseFormed b n (ClearExit h v) = HeadFormed b n h × (v < b .outcomes)
-PhaseFormed b n (ReleaseExit h v) = HeadFormed b n h × (v < b .outcomes)
-PhaseFormed b n (Retract v) = v < b .outcomes
+PhaseFormed b n (LoadExit v) = v .response < b .outcomes
+PhaseFormed b n (LinkExit h v) = HeadFormed b n h × (v .response < b .outcomes)
+PhaseFormed b n (ClearExit h v) = HeadFormed b n h × (v .response < b .outcomes)
+PhaseFormed b n (ReleaseExit h v) = HeadFormed b n h × (v .response < b .outcomes)
+PhaseFormed b n (Retract v) = v .response < b .outcomes
 
 -- The own operation with its count of steps: both 0 without one; else one of the object's, reading in ReadOnly and
 -- changing elsewhere, with no step yet in its first phase.

@@ -5,6 +5,7 @@ use mathlib.Core.List.{List, [], _∷_}
 use Prim.Native.Nat.{ℕ, zero, suc, _<_}
 use lib.Dec.{eqb}
 use Rattle.laws.specs.Places.{At}
+use Rattle.machine.specs.Outcome.{Outcome, noOutcome}
 use Rattle.machine.specs.Object.{Object}
 use Rattle.machine.specs.Calls.{Call, Begin, Step, Answer, Begun, Running, Ended, Refused, Event}
 use Rattle.machine.specs.Book.{Operation}
@@ -57,16 +58,21 @@ Rest b es = (t : ℕ) → Reads b (pending es t)
 abbrev pub Begins : List Event → Operation → Type 0
 Begins es x = At es (x .place) (record { call = Begin (x .task) (x .operation); answer = Begun })
 
--- The operation x ended at a place with a response: the first *ended* of its task after its begin call.
-pub record Ends (es : List Event) (x : Operation) (place response : ℕ) : Type 0 where
+-- The operation x ended at a place with an outcome: the first *ended* of its task after its begin call.
+pub record Ends (es : List Event) (x : Operation) (place : ℕ) (outcome : Outcome) : Type 0 where
   pub steps : ℕ
-  pub event : At es place (record { call = Step (x .task); answer = Ended response steps })
+  pub event : At es place (record { call = Step (x .task); answer = Ended outcome steps })
   pub later : x .place < place
-  pub first : (p r s : ℕ) → x .place < p → p < place → At es p (record { call = Step (x .task); answer = Ended r s }) → ⊥
+  pub first : (p : ℕ) (r : Outcome) (s : ℕ) → x .place < p → p < place → At es p (record { call = Step (x .task); answer = Ended r s }) → ⊥
 
--- The response of the i-th operation of an order, by replay of the object from state q; 0 past the end.
-abbrev pub replayed : Object → ℕ → List Operation → ℕ → ℕ
-replayed b q [] i = 0
+-- The operation x is open: begun, and no *ended* of its task since.
+pub record Open (es : List Event) (x : Operation) : Type 0 where
+  pub begins : Begins es x
+  pub unended : (p : ℕ) (r : Outcome) (s : ℕ) → x .place < p → At es p (record { call = Step (x .task); answer = Ended r s }) → ⊥
+
+-- The outcome of the i-th operation of an order, by replay of the object from state q; none past the end.
+abbrev pub replayed : Object → ℕ → List Operation → ℕ → Outcome
+replayed b q [] i = noOutcome
 replayed b q (x ∷ xs) zero = b .outcome q (x .operation)
 replayed b q (x ∷ xs) (suc i) = replayed b (b .next q (x .operation)) xs i
 
@@ -81,6 +87,6 @@ pub record Linearizes (b : Object) (q : ℕ) (es : List Event) (order : List Ope
   pub only : (i : ℕ) (x : Operation) → At order i x → Begins es x
   pub once : (i j : ℕ) (x y : Operation) → At order i x → At order j y → x .place ≡ y .place → i ≡ j
   -- Every operation that ended stands in the order, and replay gives its answer.
-  pub every : (x : Operation) (p r : ℕ) → Begins es x → Ends es x p r → (i : ℕ) × At order i x × (replayed b q order i ≡ r)
+  pub every : (x : Operation) (p : ℕ) (r : Outcome) → Begins es x → Ends es x p r → (i : ℕ) × At order i x × (replayed b q order i ≡ r)
   -- An operation that ended before another began stands before it.
-  pub real-time : (x y : Operation) (p r i j : ℕ) → Begins es x → Ends es x p r → p < y .place → At order i x → At order j y → i < j
+  pub real-time : (x y : Operation) (p : ℕ) (r : Outcome) (i j : ℕ) → Begins es x → Ends es x p r → p < y .place → At order i x → At order j y → i < j

@@ -3,6 +3,7 @@ use mathlib.Core.Path.{_≡_}
 use mathlib.Core.Bool.{Bool, true, false}
 use Prim.Native.Nat.{ℕ}
 use Rattle.cells.specs.Marks.{has}
+use Rattle.machine.specs.Outcome.{Outcome}
 use Rattle.machine.specs.Memory.{HeadValue, Free, Held, Content, Empty, Op, Resp, Cell, Memory}
 use Rattle.machine.specs.Machine.{Phase, Idle, ReadOnly, Announce, Poll, LoadHead, LinkHead, LoadPriority, LoadOwn, Apply, ReloadApply, LoadHelped, LinkHelped, Validate, HandOver, ReloadHandOver, Release, ReloadRelease, ClearHead, ReloadClear, LoadExit, LinkExit, ClearExit, ReleaseExit, Retract}
 use Rattle.machine.specs.Kind.{Kind, Off, Reading, Opening, Looping, Exiting, Retracting, kind}
@@ -38,19 +39,19 @@ Announces Empty o = ⊥
 Announces (Op x) o = x ≡ o
 Announces (Resp v) o = Unit {0}
 
--- An announcement that agrees with an outcome: an operation, or that very response.
-abbrev pub Agrees : Content → ℕ → Type 0
+-- An announcement that agrees with an outcome: an operation, or that very outcome.
+abbrev pub Agrees : Content → Outcome → Type 0
 Agrees Empty r = ⊥
 Agrees (Op x) r = Unit {0}
 Agrees (Resp v) r = v ≡ r
 
 -- The task doesn't hold the head.
 abbrev pub NotHolder : HeadValue → ℕ → Type 0
-NotHolder h i = (q r : ℕ) → h ≡ Held q i r → ⊥
+NotHolder h i = (q : ℕ) (r : Outcome) → h ≡ Held q i r → ⊥
 
 -- G1: the head's holder has announced, and its announcement agrees with the head's outcome.
 abbrev pub HolderAnnounces : Memory → ℕ → Type 0
-HolderAnnounces m i = (q r : ℕ) → headValue m ≡ Held q i r → Agrees (content m i) r
+HolderAnnounces m i = (q : ℕ) (r : Outcome) → headValue m ≡ Held q i r → Agrees (content m i) r
 
 -- T1: what the own announcement holds.
 abbrev pub OwnContent : Content → ℕ → Kind → Type 0
@@ -95,7 +96,7 @@ pub record SavedFree (now : Cell HeadValue) (i : ℕ) (h : Cell HeadValue) : Typ
 -- T4: the saved head is held by task j.
 pub record SavedHeld (now : Cell HeadValue) (i : ℕ) (h : Cell HeadValue) (j : ℕ) : Type 0 where
   pub q : ℕ
-  pub r : ℕ
+  pub r : Outcome
   pub saved : Saved now i h
   pub form : h .value ≡ Held q j r
 
@@ -129,7 +130,7 @@ pub record Releasing (m : Memory) (i : ℕ) (h : Cell HeadValue) (j : ℕ) (a : 
 
 -- T4 of LinkExit and ClearExit: the saved head is held by the task itself.
 abbrev pub HeldBy : ℕ → Cell HeadValue → Type 0
-HeldBy i h = (q : ℕ) × (r : ℕ) × (h .value ≡ Held q i r)
+HeldBy i h = (q : ℕ) × (r : Outcome) × (h .value ≡ Held q i r)
 
 -- T2 and T4 to T7, by phase: the marks in announcements, and what was saved.
 abbrev pub OwnSaved : Memory → ℕ → Phase → Type 0

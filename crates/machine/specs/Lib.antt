@@ -1,3 +1,4 @@
+pub mod Outcome
 pub mod Object
 pub mod Lawful
 pub mod Calls

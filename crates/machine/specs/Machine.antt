@@ -6,19 +6,20 @@ use native.Mathlib.Decide.{ℕ-discrete}
 use Rattle.laws.specs.Update.{update}
 use Rattle.laws.specs.Decision.{decided}
 use Rattle.cells.specs.Marks.{has, add, remove}
+use Rattle.machine.specs.Outcome.{Outcome}
 use Rattle.machine.specs.Object.{Object}
 use Rattle.machine.specs.Memory.{HeadValue, Free, Held, Content, Empty, Op, Resp, Cell, Memory, stateOf, outcomeOf, unmarked, head-dec, announcement-dec}
 
 -- Where a task is in its operation, with what it has saved: h a head, a an announcement, j the task that it works for,
--- o an operation to apply, v the own response.
+-- o an operation to apply, v the own outcome.
 pub data Phase : Type 0 where
   Idle ReadOnly Announce Poll LoadHead : Phase
   LinkHead LoadPriority LoadOwn : (h : Cell HeadValue) → Phase
   Apply ReloadApply : (h : Cell HeadValue) (j o : ℕ) → Phase
   LoadHelped ClearHead ReloadClear : (h : Cell HeadValue) (j : ℕ) → Phase
   LinkHelped Validate HandOver ReloadHandOver Release ReloadRelease : (h : Cell HeadValue) (j : ℕ) (a : Cell Content) → Phase
-  LoadExit Retract : (v : ℕ) → Phase
-  LinkExit ClearExit ReleaseExit : (h : Cell HeadValue) (v : ℕ) → Phase
+  LoadExit Retract : (v : Outcome) → Phase
+  LinkExit ClearExit ReleaseExit : (h : Cell HeadValue) (v : Outcome) → Phase
 
 -- A task's private record: its phase, its own operation, the task that it helps first, and its steps since begin.
 pub record Task : Type 0 where
@@ -124,10 +125,10 @@ swapped (HeadRead h) = false
 swapped (AnnouncementRead a) = false
 swapped (Swapped s) = s
 
--- What a step leads to: the next phase, with the priority left or moved on by one task; or the end with a response.
+-- What a step leads to: the next phase, with the priority left or moved on by one task; or the end with an outcome.
 pub data Next : Type 0 where
   Go Turn : Phase → Next
-  End : (response : ℕ) → Next
+  End : (outcome : Outcome) → Next
 
 abbrev pub afterPoll : Content → Next
 afterPoll Empty = Go LoadHead
@@ -155,7 +156,7 @@ afterLinkHelped h j a (Op o) = Go (Validate h j a)
 afterLinkHelped h j a (Resp v) = Go (Release h j a)
 
 -- By the own mark in the head, and by whether the task holds the head.
-abbrev pub afterExit : Bool → ℕ → ℕ → Cell HeadValue → HeadValue → Next
+abbrev pub afterExit : Bool → ℕ → Outcome → Cell HeadValue → HeadValue → Next
 afterExit true i v h (Free q) = Go (ReleaseExit h v)
 afterExit true i v h (Held q j r) = ite (ℕ-discrete j i) (Go (ClearExit h v)) (Go (ReleaseExit h v))
 afterExit false i v h (Free q) = Go (Retract v)

@@ -3,6 +3,7 @@ use mathlib.Core.Path.{_≡_}
 use mathlib.Core.Bool.{true, false}
 use mathlib.Core.List.{List}
 use Prim.Native.Nat.{ℕ, suc}
+use Rattle.machine.specs.Outcome.{Outcome}
 use Rattle.machine.specs.Object.{Object}
 use Rattle.machine.specs.Memory.{Held, Empty, Memory, stateOf, unmarked}
 use Rattle.machine.specs.Machine.{Access, ReadHead, WriteAnnouncement, plan}
@@ -21,7 +22,7 @@ pub record MidWork (b : Object) (q : ℕ) (m : Memory) (es : List Event) (k : Bo
   pub head-mark : (t : ℕ) → Reads b (pending es t) → inHead m t ≡ true → ⊥
   pub announcement-mark : (t j : ℕ) → Reads b (pending es t) → inAnnouncement m t j ≡ true → ⊥
   -- The head's holder has a changing operation pending.
-  pub holder : (p j r : ℕ) → headValue m ≡ Held p j r → (o : ℕ) × (s : ℕ) × (pending es j ≡ Pends o s) × (b .changing o ≡ true)
+  pub holder : (p j : ℕ) (r : Outcome) → headValue m ≡ Held p j r → (o : ℕ) × (s : ℕ) × (pending es j ≡ Pends o s) × (b .changing o ≡ true)
   -- The head's state is the one that the operations entered so far have led to.
   pub state : stateOf (headValue m) ≡ reached b q (k .order)
 
@@ -34,9 +35,9 @@ nextAccess b t c = plan b t (c .task t .priority) (c .task t .operation) (c .tas
 pub record NextStep (b : Object) (t o s q : ℕ) (access : Access) (answer : Answer) (m : Memory) : Type 0 where
   pub accepted : StepAccepted answer
   -- The count answered is the number of accepted steps since begin, this one counted.
-  pub count : (r k : ℕ) → answer ≡ Ended r k → k ≡ suc s
+  pub count : (r : Outcome) (k : ℕ) → answer ≡ Ended r k → k ≡ suc s
   -- A reading operation ends in its first step, a read of the head.
   pub reading : b .changing o ≡ false → (access ≡ ReadHead) × (answer ≡ Ended (b .outcome q o) 1)
   -- A changing operation ends in the step that empties its announcement; one that goes on leaves it announced.
-  pub ending : b .changing o ≡ true → (r k : ℕ) → answer ≡ Ended r k → access ≡ WriteAnnouncement t (unmarked Empty)
+  pub ending : b .changing o ≡ true → (r : Outcome) (k : ℕ) → answer ≡ Ended r k → access ≡ WriteAnnouncement t (unmarked Empty)
   pub running : answer ≡ Running → content m t ≡ Empty → ⊥

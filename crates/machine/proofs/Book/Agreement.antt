@@ -12,6 +12,7 @@ use Rattle.laws.specs.Places.{At}
 use Rattle.laws.proofs.Clash.{clash}
 use Rattle.laws.proofs.Update.{update-all}
 use Rattle.laws.proofs.Places.{at-same, at-bound, at-none, at-extended, at-next, Either, at-either}
+use Rattle.machine.specs.Outcome.{Outcome}
 use Rattle.machine.specs.Object.{Object}
 use Rattle.machine.specs.Calls.{Call, Begin, Step, Answer, Begun, Running, Ended, Refused, Event}
 use Rattle.machine.specs.Book.{Operation, Page, Idle, Waiting, Done, Book, blank, turned, entered, Entering, none, enter, Booking, begun, begin-task, begin-operation, begin-pending, running-waiting, running-done, ended, step-task, step-idle}
@@ -21,13 +22,13 @@ use Rattle.machine.proofs.Book.Replay.{reached-next, replayed-next, rep
 -- ---- The invariant, over the whole history es and the number p of its events that are booked
 
 -- The operation y is open before place p: begun, and no *ended* of its task since.
-pub record Open (es : List Event) (p : ℕ) (y : Operation) : Type 0 where
+pub record OpenBefore (es : List Event) (p : ℕ) (y : Operation) : Type 0 where
   pub begins : Begins es y
   pub before : y .place < p
-  pub unended : (i r s : ℕ) → y .place < i → i < p → At es i (record { call = Step (y .task); answer = Ended r s }) → ⊥
+  pub unended : (i : ℕ) (r : Outcome) (s : ℕ) → y .place < i → i < p → At es i (record { call = Step (y .task); answer = Ended r s }) → ⊥
 
--- The operation y stands in an order, and replay gives it the response r.
-abbrev pub Answered : Object → ℕ → List Operation → Operation → ℕ → Type 0
+-- The operation y stands in an order, and replay gives it the outcome r.
+abbrev pub Answered : Object → ℕ → List Operation → Operation → Outcome → Type 0
 Answered b q order y r = (i : ℕ) × At order i y × (replayed b q order i ≡ r)
 
 -- The operation x of task t is not in the order, and no other operation of t is open.
@@ -35,22 +36,22 @@ pub record Awaits (es : List Event) (p : ℕ) (order : List Operation) (t : ℕ)
   pub begins : Begins es x
   pub before : x .place < p
   pub own : x .task ≡ t
-  pub sole : (y : Operation) → y .task ≡ t → Open es p y → y ≡ x
+  pub sole : (y : Operation) → y .task ≡ t → OpenBefore es p y → y ≡ x
   pub fresh : (i : ℕ) (y : Operation) → At order i y → y .place ≢ x .place
 
--- What the page of task t says of its open operations: none, one that is awaited, or answered with the response on the page.
+-- What the page of task t says of its open operations: none, one that is awaited, or answered with the outcome on the page.
 abbrev pub Fits : Object → ℕ → List Event → ℕ → List Operation → ℕ → Page → Type 0
-Fits b q es p order t Idle = (y : Operation) → y .task ≡ t → Open es p y → ⊥
+Fits b q es p order t Idle = (y : Operation) → y .task ≡ t → OpenBefore es p y → ⊥
 Fits b q es p order t (Waiting x s) = Awaits es p order t x
-Fits b q es p order t (Done r s) = (y : Operation) → y .task ≡ t → Open es p y → Answered b q order y r
+Fits b q es p order t (Done r s) = (y : Operation) → y .task ≡ t → OpenBefore es p y → Answered b q order y r
 
 -- The book agrees with the events before place p.
 pub record AgreesWithBook (b : Object) (q : ℕ) (es : List Event) (p : ℕ) (k : Book) : Type 0 where
   pub state : k .state ≡ reached b q (k .order)
   pub only : (i : ℕ) (x : Operation) → At (k .order) i x → Begins es x × (x .place < p)
   pub once : (i j : ℕ) (x y : Operation) → At (k .order) i x → At (k .order) j y → x .place ≡ y .place → i ≡ j
-  pub every : (x : Operation) (c r : ℕ) → Begins es x → Ends es x c r → c < p → Answered b q (k .order) x r
-  pub real-time : (x y : Operation) (c r i j : ℕ) → Begins es x → Ends es x c r → c < p → c < y .place → At (k .order) i x → At (k .order) j y → i < j
+  pub every : (x : Operation) (c : ℕ) (r : Outcome) → Begins es x → Ends es x c r → c < p → Answered b q (k .order) x r
+  pub real-time : (x y : Operation) (c : ℕ) (r : Outcome) (i j : ℕ) → Begins es x → Ends es x c r → c < p → c < y .place → At (k .order) i x → At (k .order) j y → i < j
   pub pages : (t : ℕ) → Fits b q es p (k .order) t (k .page t)
 
 -- An operation is known by the place of its begin call.
@@ -95,7 +96,7 @@ module _ (b : Object) (q : ℕ) (es : List Event) where
 
   module _ (p : ℕ) (order : List Operation) (t : ℕ) (x : Operation) (w : Awaits es p order t x) where
     -- An answered operation stays answered in the longer order.
-    answered-extended : (y : Operation) (r : ℕ) → Answered b q order y r → Answered b q (order ++ (x ∷ [])) y r
+    answered-extended : (y : Operation) (r : Outcome) → Answered b q order y r → Answered b q (order ++ (x ∷ [])) y r
     answered-extended y r a = (a .0, at-extended (x ∷ []) (a .1), replayed-before b x q (a .1) ∙ a .2)
 
     -- Operations that wait for different tasks have different places.
@@ -145,7 +146,7 @@ module _ (b : Object) (q : ℕ) (es : List Event) where
       once i j y z d (inr a) (inr c) = a .0 ∙ sym (c .0)
 
       -- What ended stands in the order already, so that only the later of the two can be x.
-      real-time : (y z : Operation) (c r i j : ℕ) → Begins es y → Ends es y c r → c < p → c < z .place → Either (k .order) x i y → Either (k .order) x j z → i < j
+      real-time : (y z : Operation) (c : ℕ) (r : Outcome) (i j : ℕ) → Begins es y → Ends es y c r → c < p → c < z .place → Either (k .order) x i y → Either (k .order) x j z → i < j
       real-time y z c r i j u v l m (inl a) (inl d) = g .real-time y z c r i j u v l m a d
       real-time y z c r i j u v l m (inl a) (inr d) = omega (arith, at-bound a, d .0)
       real-time y z c r i j u v l m (inr a) d = let f = g .every y c r u v l in absurd (w .fresh (f .0) y (f .1) (ap (λ o. o .place) (a .1)))
@@ -160,11 +161,11 @@ module _ (b : Object) (q : ℕ) (es : List Event) where
   unbegun : (p : ℕ) {e : Event} → At es p e → opens (e .answer) ≡ false → (y : Operation) → Begins es y → y .place ≢ p
   unbegun p v n y u d = clash (ap (λ z. opens (z .answer)) (at-same v (rw d at u))) n
 
-  unended : (p : ℕ) {e : Event} → At es p e → closes (e .answer) ≡ false → (x : Operation) (r : ℕ) → Ends es x p r → ⊥
+  unended : (p : ℕ) {e : Event} → At es p e → closes (e .answer) ≡ false → (x : Operation) (r : Outcome) → Ends es x p r → ⊥
   unended p v n x r u = clash (ap (λ z. closes (z .answer)) (at-same v (u .event))) n
 
   -- An operation that is open after the event at place p was open before it, if it did not begin there.
-  open-before : (p : ℕ) (y : Operation) → y .place ≢ p → Open es (suc p) y → Open es p y
+  open-before : (p : ℕ) (y : Operation) → y .place ≢ p → OpenBefore es (suc p) y → OpenBefore es p y
   open-before p y n o =
       record {
         begins = o .begins;
@@ -177,7 +178,7 @@ module _ (b : Object) (q : ℕ) (es : List Event) where
     fits-still : (t : ℕ) → ((y : Operation) → y .task ≡ t → Begins es y → y .place ≢ p) → (page : Page) → Fits b q es p (k .order) t page → Fits b q es (suc p) (k .order) t page
     fits-still t n page f = go page f
       where
-        back : (y : Operation) → y .task ≡ t → Open es (suc p) y → Open es p y
+        back : (y : Operation) → y .task ≡ t → OpenBefore es (suc p) y → OpenBefore es p y
         back y e o = open-before p y (n y e (o .begins)) o
 
         go : (page : Page) → Fits b q es p (k .order) t page → Fits b q es (suc p) (k .order) t page
@@ -187,7 +188,7 @@ module _ (b : Object) (q : ℕ) (es : List Event) where
 
     -- The book with other pages agrees with one event more, if the pages are right, and if what ends there is answered.
     passed : (page : ℕ → Page) → ((t : ℕ) → Fits b q es (suc p) (k .order) t (page t))
-        → ((x : Operation) (r : ℕ) → Begins es x → Ends es x p r → Answered b q (k .order) x r)
+        → ((x : Operation) (r : Outcome) → Begins es x → Ends es x p r → Answered b q (k .order) x r)
         → AgreesWithBook b q es (suc p) (record { state = k .state; order = k .order; page = page })
     passed page f h =
         record {
@@ -199,7 +200,7 @@ module _ (b : Object) (q : ℕ) (es : List Event) where
           pages = f;
         }
       where
-        every : (x : Operation) (c r : ℕ) → Begins es x → Ends es x c r → c < suc p → Dec (c ≡ p) → Answered b q (k .order) x r
+        every : (x : Operation) (c : ℕ) (r : Outcome) → Begins es x → Ends es x c r → c < suc p → Dec (c ≡ p) → Answered b q (k .order) x r
         every x c r u v l (yes e) = h x r u (rw e at v)
         every x c r u v l (no n) = g .every x c r u v (omega arith)
 
@@ -219,10 +220,10 @@ module _ (b : Object) (q : ℕ) (es : List Event) where
         x : Operation
         x = record { place = p; task = t; operation = o }
 
-        idle : (y : Operation) → y .task ≡ t → Open es p y → ⊥
+        idle : (y : Operation) → y .task ≡ t → OpenBefore es p y → ⊥
         idle = rw e at (g .pages t)
 
-        sole : (y : Operation) → y .task ≡ t → Open es (suc p) y → Dec (y .place ≡ p) → y ≡ x
+        sole : (y : Operation) → y .task ≡ t → OpenBefore es (suc p) y → Dec (y .place ≡ p) → y ≡ x
         sole y d u (yes l) = same-place es y x (u .begins) v l
         sole y d u (no n) = absurd (idle y d (open-before p y n u))
 
@@ -239,23 +240,23 @@ module _ (b : Object) (q : ℕ) (es : List Event) where
         others t′ n = fits-still t′ (λ y d u l. n (sym (ap (λ z. z .task) (same-place es y x u v l)) ∙ d)) (k .page t′) (g .pages t′)
 
     -- The end of an operation of a task that is done.
-    closing : (t r s steps : ℕ) → At es p (record { call = Step t; answer = Ended r steps }) → k .page t ≡ Done r s → AgreesWithBook b q es (suc p) (turned t Idle k)
+    closing : (t : ℕ) (r : Outcome) (s steps : ℕ) → At es p (record { call = Step t; answer = Ended r steps }) → k .page t ≡ Done r s → AgreesWithBook b q es (suc p) (turned t Idle k)
     closing t r s steps v e = passed (update (k .page) t Idle) (update-all (k .page) t Idle (Fits b q es (suc p) (k .order)) idle others) answered
       where
         began : (y : Operation) → Begins es y → y .place ≢ p
         began = unbegun p v refl
 
-        done : (y : Operation) → y .task ≡ t → Open es p y → Answered b q (k .order) y r
+        done : (y : Operation) → y .task ≡ t → OpenBefore es p y → Answered b q (k .order) y r
         done = rw e at (g .pages t)
 
-        idle : (y : Operation) → y .task ≡ t → Open es (suc p) y → ⊥
+        idle : (y : Operation) → y .task ≡ t → OpenBefore es (suc p) y → ⊥
         idle y d u = u .unended p r steps (open-before p y (began y (u .begins)) u .before) (omega arith) (rw d v)
 
         others : (t′ : ℕ) → t ≢ t′ → Fits b q es (suc p) (k .order) t′ (k .page t′)
         others t′ _ = fits-still t′ (λ y _ u. began y u) (k .page t′) (g .pages t′)
 
-        answered : (x : Operation) (r′ : ℕ) → Begins es x → Ends es x p r′ → Answered b q (k .order) x r′
-        answered x r′ u w = rw response (done x task (record { begins = u; before = w .later; unended = w .first }))
+        answered : (x : Operation) (r′ : Outcome) → Begins es x → Ends es x p r′ → Answered b q (k .order) x r′
+        answered x r′ u w = rw outcome (done x task (record { begins = u; before = w .later; unended = w .first }))
           where
             calls : Step (x .task) ≡ Step t
             calls = ap (λ z. z .call) (at-same (w .event) v)
@@ -266,8 +267,8 @@ module _ (b : Object) (q : ℕ) (es : List Event) where
             task : x .task ≡ t
             task = cc calls
 
-            response : r′ ≡ r
-            response = cc answers
+            outcome : r′ ≡ r
+            outcome = cc answers
 
     -- The booking of an event keeps the agreement.
     pub booked : {n : ℕ} {c : Call} {a : Answer} {k′ : Book} → Booking b n p k c a k′ → At es p (record { call = c; answer = a }) → AgreesWithBook b q es (suc p) k′

@@ -1,10 +1,11 @@
--- The book of a step between the entries and the booking: a task that goes on stands as before, and one that ends has its response.
+-- The book of a step between the entries and the booking: a task that goes on stands as before, and one that ends has its outcome.
 use mathlib.Core.Path.{_≡_, refl, sym, _∙_, ap}
 use mathlib.Core.Bool.{false}
 use mathlib.Core.Logic.{_≢_}
 use Prim.Native.Nat.{ℕ, _<_}
 use Rattle.laws.proofs.Clash.{clash}
 use Rattle.laws.proofs.Update.{update-same, everywhere}
+use Rattle.machine.specs.Outcome.{Outcome}
 use Rattle.machine.specs.Object.{Object}
 use Rattle.machine.specs.Lawful.{Opens}
 use Rattle.machine.specs.Memory.{Content, Cell, Memory, stateOf}
@@ -29,8 +30,8 @@ pub record Runs (c : Config) (m : Memory) (i : ℕ) (k : Book) (f : Phase) : Typ
   pub related : Related (withCells c m) k
   pub stands : standsAt m i (kind f) ≡ standsAt m i (kind (c .task i .phase))
 
--- The step of task i ends with the response v: the task has been entered with it.
-pub record EndsBooked (c : Config) (m : Memory) (i : ℕ) (k : Book) (v : ℕ) : Type 0 where
+-- The step of task i ends with the outcome v: the task has been entered with it.
+pub record EndsBooked (c : Config) (m : Memory) (i : ℕ) (k : Book) (v : Outcome) : Type 0 where
   pub state : k .state ≡ stateOf (headValue m)
   pub others : (t : ℕ) → i ≢ t → Paged m t (c .task t) (k .page t)
   pub page : k .page i ≡ Done v (c .task i .steps)
@@ -98,7 +99,7 @@ module _ (b : Object) (c : Config) (k : Book) (i : ℕ) where
         own : Paged m i (c .task i) (k .page i)
         own = shows-same (sym opening) i (c .task i .operation) (c .task i .steps) (k .page i) (page-by rel i z)
 
-    before-booking-applies : (q j r : ℕ) {f : Phase} → c .task i .phase ≡ f → kind f ≡ Looping → Safe c → Allowed b (c .memory) i (Applied q j r) → Runs c (effect i (Applied q j r) (c .memory)) i (enter b j k) Poll
+    before-booking-applies : (q j : ℕ) (r : Outcome) {f : Phase} → c .task i .phase ≡ f → kind f ≡ Looping → Safe c → Allowed b (c .memory) i (Applied q j r) → Runs c (effect i (Applied q j r) (c .memory)) i (enter b j k) Poll
     before-booking-applies q j r z l safe u = record {
       related = related-applied b c k i rel safe q j r u;
       stands = sym (ap (λ (f : Phase). standsAt (effect i (Applied q j r) (c .memory)) i (kind f)) z ∙ ap (standsAt (effect i (Applied q j r) (c .memory)) i) l);

@@ -4,6 +4,7 @@ use mathlib.Core.Logic.{_≢_, if-pos}
 use Prim.Native.Nat.{ℕ}
 use native.Mathlib.Decide.{ℕ-discrete}
 use Rattle.laws.proofs.Update.{update-same, update-other, everywhere}
+use Rattle.machine.specs.Outcome.{Outcome}
 use Rattle.machine.specs.Object.{Object}
 use Rattle.machine.specs.Memory.{HeadValue, Held, Content, Op, Memory, stateOf}
 use Rattle.machine.specs.Kind.{Kind, Off, Reading, Opening, Looping, Exiting, Retracting, kind}
@@ -66,7 +67,7 @@ module _ (b : Object) (c : Config) (k : Book) (i : ℕ) (rel : Related c k) wher
   page-aside e u t n = shows-same (sym (stands-aside b (c .memory) i t e u n (kind (c .task t .phase)))) t (c .task t .operation) (c .task t .steps) (k .page t) (rel .page t)
 
   -- The operation of task j is applied: the task is entered.
-  pub related-applied : Safe c → (q j r : ℕ) → Allowed b (c .memory) i (Applied q j r) → Related (withCells c (effect i (Applied q j r) (c .memory))) (enter b j k)
+  pub related-applied : Safe c → (q j : ℕ) (r : Outcome) → Allowed b (c .memory) i (Applied q j r) → Related (withCells c (effect i (Applied q j r) (c .memory))) (enter b j k)
   related-applied safe q j r (a, x, free, op, next, outcome) = record { state = done .state ∙ reached; page = everywhere _ j own others }
     where
       m : Memory

@@ -4,6 +4,7 @@ use mathlib.Core.Bool.{Bool, true, false}
 use Prim.Native.Nat.{ℕ}
 use Rattle.laws.proofs.Clash.{clash}
 use Rattle.laws.proofs.Decision.{decided-yes, decided-no}
+use Rattle.machine.specs.Outcome.{Outcome}
 use Rattle.machine.specs.Object.{Object}
 use Rattle.machine.specs.Memory.{HeadValue, Content, Resp, Cell, Memory, stateOf, head-dec}
 use Rattle.machine.specs.Machine.{Phase, Idle, ReadOnly, Announce, Poll, Apply, Retract, Next, Go, Turn, End, phaseOf, ends}
@@ -37,7 +38,7 @@ pub data Progress (b : Object) (m : Memory) (i x : ℕ) : Phase → Effect → N
   announces : Progress b m i x Announce (Announced x) (Go Poll)
   applies : {h : Cell HeadValue} {j o : ℕ} → m .head ≡ h → Progress b m i x (Apply h j o) (Applied (b .next (stateOf (h .value)) o) j (b .outcome (stateOf (h .value)) o)) (Turn Poll)
   continues : {f f′ : Phase} {e : Effect} → Onward (content m i) i (kind f) (kind f′) → ((s t : ℕ) → Aside s t e) → ((k : Book) → enterBy b m i f k ≡ k) → Progress b m i x f e (Go f′)
-  retracts : {v : ℕ} → Progress b m i x (Retract v) Retracted (End v)
+  retracts : {v : Outcome} → Progress b m i x (Retract v) Retracted (End v)
 
 announced-pends : (d : Kind) → announced d ≡ true → off d ≡ false
 announced-pends Off e = clash e refl
@@ -57,7 +58,7 @@ progress-pends (continues {f′ = f′} o s n) p = announced-pends (kind f′) (
 progress-pends retracts p = refl
 
 -- A task that has its response is answered over every head.
-responded : {a : Content} {v : ℕ} → a ≡ Resp v → (h : HeadValue) (t : ℕ) → Answered v ≡ byContent a h t
+responded : {a : Content} {v : Outcome} → a ≡ Resp v → (h : HeadValue) (t : ℕ) → Answered v ≡ byContent a h t
 responded e h t = rw e refl
 
 module _ (b : Object) (m : Memory) (i : ℕ) where

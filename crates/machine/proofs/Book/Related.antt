@@ -5,6 +5,7 @@ use Prim.Native.Nat.{ℕ}
 use native.Mathlib.Decide.{ℕ-discrete}
 use Rattle.laws.specs.Update.{update}
 use Rattle.laws.proofs.Update.{update-all, update-other}
+use Rattle.machine.specs.Outcome.{Outcome}
 use Rattle.machine.specs.Object.{Object}
 use Rattle.machine.specs.Memory.{HeadValue, Free, Held, Content, Empty, Op, Resp, Cell, Memory, stateOf}
 use Rattle.machine.specs.Machine.{Phase, Task}
@@ -14,12 +15,12 @@ use Rattle.machine.specs.Book.{Book, Page, Waiting, Done, blank}
 use Rattle.machine.specs.Invariant.{headValue, content, IsResp, NotHolder}
 use Rattle.machine.proofs.Steps.Effect.{Effect, Unchanged, Linked, Released, Cleared, Retracted, Applied, LinkedAt, ReleasedAt, HandedOver, Announced, effect, Allowed}
 
--- Where a task stands: it has no operation, its operation waits, or it has been entered and has its response.
+-- Where a task stands: it has no operation, its operation waits, or it has been entered and has its outcome.
 pub data Standing : Type 0 where
   Out Waits : Standing
-  Answered : (response : ℕ) → Standing
+  Answered : (outcome : Outcome) → Standing
 
--- An announced operation waits until the task holds the head, which then has its response.
+-- An announced operation waits until the task holds the head, which then has its outcome.
 abbrev pub byHead : HeadValue → ℕ → Standing
 byHead (Free q) t = Waits
 byHead (Held q j r) t = ite (ℕ-discrete j t) (Answered r) Waits
@@ -88,7 +89,7 @@ not-held (Free q) t n = refl
 not-held (Held q j r) t n = if-neg (ℕ-discrete j t) (λ e. n q r (ap (λ x. Held q x r) e)) (Answered r) Waits
 
 -- To a task that has its response or isn't j, a head held by j is as a free one.
-as-free : (a : Content) (c q j r t : ℕ) → (j ≡ t → IsResp a) → byContent a (Held q j r) t ≡ byContent a (Free c) t
+as-free : (a : Content) (c q j : ℕ) (r : Outcome) (t : ℕ) → (j ≡ t → IsResp a) → byContent a (Held q j r) t ≡ byContent a (Free c) t
 as-free Empty c q j r t f = refl
 as-free (Op x) c q j r t f = if-neg (ℕ-discrete j t) f (Answered r) Waits
 as-free (Resp v) c q j r t f = refl

@@ -6,6 +6,7 @@ use Rattle.laws.proofs.Clash.{clash}
 use Rattle.laws.proofs.Update.{update-all, update-same}
 use Rattle.cells.specs.Marks.{has}
 use Rattle.cells.proofs.MarkLaws.{has-none, has-add, has-remove}
+use Rattle.machine.specs.Outcome.{Outcome}
 use Rattle.machine.specs.Object.{Object}
 use Rattle.machine.specs.Memory.{HeadValue, Held, Content, Empty, Op, Resp, Cell, Memory}
 use Rattle.machine.specs.Machine.{Phase, linked, Next, phaseOf}
@@ -23,7 +24,7 @@ operation-of Empty u = absurd u
 operation-of (Op o) u = (o, refl)
 operation-of (Resp v) u = absurd u
 
-pub is-response : {a : Content} {v : ℕ} → a ≡ Resp v → IsResp a
+pub is-response : {a : Content} {v : Outcome} → a ≡ Resp v → IsResp a
 is-response e = rw e tt
 
 announces : {a : Content} {o : ℕ} → a ≡ Op o → Announces a o
@@ -33,7 +34,7 @@ pub not-empty : {a : Content} (o : ℕ) → Announces a o → a ≡ Empty → �
 not-empty o y e = let z : Announces Empty o = rw e at y in z
 
 -- What agrees with an outcome and is no operation is a response.
-agrees-response : (a : Content) (r : ℕ) → Agrees a r → (IsOp a → ⊥) → IsResp a
+agrees-response : (a : Content) (r : Outcome) → Agrees a r → (IsOp a → ⊥) → IsResp a
 agrees-response Empty r y n = absurd y
 agrees-response (Op o) r y n = absurd (n tt)
 agrees-response (Resp v) r y n = tt
@@ -73,7 +74,7 @@ module _ (m : Memory) (i j : ℕ) (a : Cell Content) where
   same-content : a .value ≡ content m j → (k : ℕ) → content (withAnnouncement m j a) k ≡ content m k
   same-content e = update-all (m .announcement) j a (λ k (c : Cell Content). c .value ≡ content m k) e (λ k _. refl)
 
-  answered-content : (o : ℕ) {v : ℕ} → a .value ≡ Resp v → Announces (content m i) o → Announces (content (withAnnouncement m j a) i) o
+  answered-content : (o : ℕ) {v : Outcome} → a .value ≡ Resp v → Announces (content m i) o → Announces (content (withAnnouncement m j a) i) o
   answered-content o e y = update-all (m .announcement) j a (λ k (c : Cell Content). k ≡ i → Announces (c .value) o) (λ _. rw e tt) (λ k _ z. rw z y) i refl
 
   -- The own mark: only there, or taken away from there.

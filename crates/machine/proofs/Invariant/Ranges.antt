@@ -58,7 +58,7 @@ module _ (b : Object) (n : ℕ) where
   EffectFormed (Applied q j r) = HeadValueFormed b n (Held q j r)
   EffectFormed (LinkedAt j) = j < n
   EffectFormed (ReleasedAt j) = j < n
-  EffectFormed (HandedOver j r) = (j < n) × (r < b .outcomes)
+  EffectFormed (HandedOver j r) = (j < n) × (r .response < b .outcomes)
   EffectFormed (Announced o) = o < b .operations
 
   head-formed : {m : Memory} → MemoryFormed b n m → {h : Cell HeadValue} → HeadFormed b n h → MemoryFormed b n (withHead m h)

@@ -7,6 +7,7 @@ use Rattle.laws.proofs.Clash.{clash, never}
 use Rattle.laws.proofs.Update.{update-all}
 use Rattle.cells.specs.Marks.{has}
 use Rattle.cells.proofs.MarkLaws.{has-none, has-add-other, has-remove-other}
+use Rattle.machine.specs.Outcome.{Outcome}
 use Rattle.machine.specs.Object.{Object}
 use Rattle.machine.specs.Memory.{HeadValue, Free, Held, Content, Empty, Op, Resp, Cell, Memory, unmarked}
 use Rattle.machine.specs.Machine.{linked, released, cleared}
@@ -33,14 +34,14 @@ pub record Rely (i : ℕ) (m m′ : Memory) : Type 0 where
   pub announcement : (j : ℕ) → Stays i (m .announcement j) (m′ .announcement j)
   pub own : Grows (content m i) (content m′ i)
   -- A task with a response that doesn't hold the head isn't made its holder.
-  pub unheld : {v : ℕ} → content m i ≡ Resp v → NotHolder (headValue m) i → NotHolder (headValue m′) i
+  pub unheld : {v : Outcome} → content m i ≡ Resp v → NotHolder (headValue m) i → NotHolder (headValue m′) i
   -- With no holder, a waiting operation waits on.
   pub waits : {q j o : ℕ} → headValue m ≡ Free q → content m j ≡ Op o → content m′ j ≡ Op o
   -- The holder keeps its response, and the own mark vanishes from its announcement only with a response.
-  pub done : {q j r : ℕ} → headValue m ≡ Held q j r → IsResp (content m j) → IsResp (content m′ j)
-  pub lost : {q j r : ℕ} → headValue m ≡ Held q j r → inAnnouncement m i j ≡ true → inAnnouncement m′ i j ≡ false → IsResp (content m′ j)
+  pub done : {q j : ℕ} {r : Outcome} → headValue m ≡ Held q j r → IsResp (content m j) → IsResp (content m′ j)
+  pub lost : {q j : ℕ} {r : Outcome} → headValue m ≡ Held q j r → inAnnouncement m i j ≡ true → inAnnouncement m′ i j ≡ false → IsResp (content m′ j)
   -- While the holder waits, the own mark stays in the head.
-  pub kept : {q j r o : ℕ} → headValue m ≡ Held q j r → content m j ≡ Op o → inHead m i ≡ true → inHead m′ i ≡ true
+  pub kept : {q j : ℕ} {r : Outcome} {o : ℕ} → headValue m ≡ Held q j r → content m j ≡ Op o → inHead m i ≡ true → inHead m′ i ≡ true
 
 pub grows-same : (a : Content) → Grows a a
 grows-same Empty = refl
@@ -57,8 +58,8 @@ not-response {a} {o} e y = let z : IsResp (Op o) = rw e at y in z
 module _ {i : ℕ} {m : Memory} where
   -- Another head.
   rely-head : (h : Cell HeadValue) → Stays i (m .head) h
-      → ((v : ℕ) → content m i ≡ Resp v → NotHolder (headValue m) i → NotHolder (h .value) i)
-      → ((q j r o : ℕ) → headValue m ≡ Held q j r → content m j ≡ Op o → inHead m i ≡ true → has i (h .marks) ≡ true)
+      → ((v : Outcome) → content m i ≡ Resp v → NotHolder (headValue m) i → NotHolder (h .value) i)
+      → ((q j : ℕ) (r : Outcome) (o : ℕ) → headValue m ≡ Held q j r → content m j ≡ Op o → inHead m i ≡ true → has i (h .marks) ≡ true)
       → Rely i m (withHead m h)
   rely-head h head unheld kept = record {
     head = head;
@@ -75,8 +76,8 @@ module _ {i : ℕ} {m : Memory} where
   rely-announcement : (k : ℕ) (a : Cell Content) → Stays i (m .announcement k) a
       → (k ≡ i → Grows (content m k) (a .value))
       → ((q o : ℕ) → headValue m ≡ Free q → content m k ≡ Op o → a .value ≡ Op o)
-      → ((q r : ℕ) → headValue m ≡ Held q k r → IsResp (content m k) → IsResp (a .value))
-      → ((q r : ℕ) → headValue m ≡ Held q k r → inAnnouncement m i k ≡ true → has i (a .marks) ≡ false → IsResp (a .value))
+      → ((q : ℕ) (r : Outcome) → headValue m ≡ Held q k r → IsResp (content m k) → IsResp (a .value))
+      → ((q : ℕ) (r : Outcome) → headValue m ≡ Held q k r → inAnnouncement m i k ≡ true → has i (a .marks) ≡ false → IsResp (a .value))
       → Rely i m (withAnnouncement m k a)
   rely-announcement k a stays own waits done lost = record {
     head = λ e. (e, refl);
@@ -125,8 +126,8 @@ module _ (b : Object) (m : Memory) {i k : ℕ} (n : i ≢ k) where
 
 -- G1 stands after each effect.
 module _ (b : Object) (m : Memory) (i : ℕ) (all : (j : ℕ) → HolderAnnounces m j) where
-  holders-with : (k : ℕ) (a : Cell Content) → ((q r : ℕ) → headValue m ≡ Held q k r → Agrees (a .value) r) → (j : ℕ) → HolderAnnounces (withAnnouncement m k a) j
-  holders-with k a y = update-all (m .announcement) k a (λ j (c : Cell Content). (q r : ℕ) → headValue m ≡ Held q j r → Agrees (c .value) r) y (λ j _. all j)
+  holders-with : (k : ℕ) (a : Cell Content) → ((q : ℕ) (r : Outcome) → headValue m ≡ Held q k r → Agrees (a .value) r) → (j : ℕ) → HolderAnnounces (withAnnouncement m k a) j
+  holders-with k a y = update-all (m .announcement) k a (λ j (c : Cell Content). (q : ℕ) (r : Outcome) → headValue m ≡ Held q j r → Agrees (c .value) r) y (λ j _. all j)
 
   pub holders : (e : Effect) → Allowed b m i e → (j : ℕ) → HolderAnnounces (effect i e m) j
   holders Unchanged u = all

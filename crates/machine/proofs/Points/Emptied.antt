@@ -6,6 +6,7 @@ use Prim.Native.Nat.{ℕ, suc}
 use native.Mathlib.Decide.{ℕ-discrete}
 use Rattle.laws.proofs.Clash.{clash}
 use Rattle.laws.proofs.Update.{update-other}
+use Rattle.machine.specs.Outcome.{Outcome}
 use Rattle.machine.specs.Object.{Object}
 use Rattle.machine.specs.Lawful.{Opens}
 use Rattle.machine.specs.Memory.{Content, Empty, Memory}
@@ -37,7 +38,7 @@ stands (Exiting v) a o w f = refl
 stands (Retracting v) a o w f = refl
 
 -- An answer that doesn't run on is *ended*.
-ends-answered : (k : ℕ) (y : Next) → (ends y ≡ false → ⊥) → (r : ℕ) × (s : ℕ) × (answerOf k y ≡ Ended r s)
+ends-answered : (k : ℕ) (y : Next) → (ends y ≡ false → ⊥) → (r : Outcome) × (s : ℕ) × (answerOf k y ≡ Ended r s)
 ends-answered k (Go f) h = absurd (h refl)
 ends-answered k (Turn f) h = absurd (h refl)
 ends-answered k (End v) h = (v, suc k, refl)
@@ -55,7 +56,7 @@ retracting s retracts w r z = (refl, refl)
 module _ (b : Object) (n : ℕ) (c : Config) (safe : Safe c) (formed : Formed b n c) (t : ℕ) where
   -- Only an ending step of the task itself empties its announcement.
   emptied : {x : Call} {z : Served} → Serving b n c x z → (content (c .memory) t ≡ Empty → ⊥) → content (z .config .memory) t ≡ Empty
-      → (x ≡ Step t) × ((r : ℕ) × (s : ℕ) × (z .answer ≡ Ended r s))
+      → (x ≡ Step t) × ((r : Outcome) × (s : ℕ) × (z .answer ≡ Ended r s))
   emptied (begins h k e) f g = absurd (f g)
   emptied (begin-task h) f g = absurd (f g)
   emptied (begin-operation h k) f g = absurd (f g)
@@ -67,7 +68,7 @@ module _ (b : Object) (n : ℕ) (c : Config) (safe : Safe c) (formed : Formed b 
       x : Task
       x = c .task i
 
-      go : Dec (i ≡ t) → (Step i ≡ Step t) × ((r : ℕ) × (s : ℕ) × (answerOf (x .steps) y ≡ Ended r s))
+      go : Dec (i ≡ t) → (Step i ≡ Step t) × ((r : Outcome) × (s : ℕ) × (answerOf (x .steps) y ≡ Ended r s))
       go (yes same) = (
         ap Step same,
         ends-answered (x .steps) y
@@ -80,7 +81,7 @@ module _ (b : Object) (n : ℕ) (c : Config) (safe : Safe c) (formed : Formed b 
           absurd (announced-content (kind (c .task t .phase)) (content (effect i e (c .memory)) t) (c .task t .operation) (stands (kind (c .task t .phase)) (content (c .memory) t) (c .task t .operation) (safe .each t .own) f) after g)
 
   -- And every such step of a changing operation does.
-  empties : {z : Served} → Serving b n c (Step t) z → (o s r k : ℕ) → pendingOf (c .task t) ≡ Pends o s → b .changing o ≡ true → z .answer ≡ Ended r k
+  empties : {z : Served} → Serving b n c (Step t) z → (o s : ℕ) (r : Outcome) (k : ℕ) → pendingOf (c .task t) ≡ Pends o s → b .changing o ≡ true → z .answer ≡ Ended r k
       → (content (c .memory) t ≡ Empty → ⊥) × (content (z .config .memory) t ≡ Empty)
   empties {z} v o s r k e changes ended =
       let own = own-record b n c formed t o s e in
@@ -109,10 +110,10 @@ emptyings b n q good xs x t below = (only, every)
         let s = sound b n q good xs in
         let (step, (r, k, ended)) = emptied b n c (s .safe) (s .formed) t (serving b n c x) f (rw served at g) in
         let (pends, changes) = announces-changing b n c (s .safe) (s .formed) t f in
-        record { operation = _; steps = _; response = r; count = k; step = step; pends = pending-is b n xs q t ∙ pends; changes = changes; ended = ended }
+        record { operation = _; steps = _; outcome = r; count = k; step = step; pends = pending-is b n xs q t ∙ pends; changes = changes; ended = ended }
 
     every : EndsChanging b (machineShows b n q) xs x t → (content (c .memory) t ≡ Empty → ⊥) × (content (run b n (xs ++ (x ∷ [])) (start q) .memory) t ≡ Empty)
     every e =
         let s = sound b n q good xs in
         rw (served, e .step)
-        (empties b n c (s .safe) (s .formed) t (serving b n c (Step t)) (e .operation) (e .steps) (e .response) (e .count) (sym (pending-is b n xs q t) ∙ e .pends) (e .changes) (rw (e .step) at (e .ended)))
+        (empties b n c (s .safe) (s .formed) t (serving b n c (Step t)) (e .operation) (e .steps) (e .outcome) (e .count) (sym (pending-is b n xs q t) ∙ e .pends) (e .changes) (rw (e .step) at (e .ended)))

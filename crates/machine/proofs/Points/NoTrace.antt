@@ -4,6 +4,7 @@ use mathlib.Core.Bool.{true, cond}
 use Prim.Native.Nat.{ℕ, _<_}
 use native.Mathlib.Decide.{decLt}
 use Rattle.laws.proofs.Clash.{clash}
+use Rattle.machine.specs.Outcome.{Outcome}
 use Rattle.machine.specs.Object.{Object}
 use Rattle.machine.specs.Memory.{Held, Content, Empty, Memory}
 use Rattle.machine.specs.Machine.{Phase, Idle, ReadOnly, Announce, Poll, LoadHead, LinkHead, LoadPriority, LoadOwn, Apply, ReloadApply, LoadHelped, LinkHelped, Validate, HandOver, ReloadHandOver, Release, ReloadRelease, ClearHead, ReloadClear, LoadExit, LinkExit, ClearExit, ReleaseExit, Retract}
@@ -82,5 +83,5 @@ module _ (b : Object) where
     pub announces-changing : (j : ℕ) → (content (c .memory) j ≡ Empty → ⊥) → (pendingOf (c .task j) ≡ Pends (c .task j .operation) (c .task j .steps)) × (b .changing (c .task j .operation) ≡ true)
     announces-changing j f = works (kind (c .task j .phase)) (content (c .memory) j) _ _ (operation-formed j) (safe .each j .own) f
 
-    pub holder-works : (q j r : ℕ) → headValue (c .memory) ≡ Held q j r → (pendingOf (c .task j) ≡ Pends (c .task j .operation) (c .task j .steps)) × (b .changing (c .task j .operation) ≡ true)
+    pub holder-works : (q j : ℕ) (r : Outcome) → headValue (c .memory) ≡ Held q j r → (pendingOf (c .task j) ≡ Pends (c .task j .operation) (c .task j .steps)) × (b .changing (c .task j .operation) ≡ true)
     holder-works q j r e = announces-changing j (λ z. (rw z at (safe .holder j q r e)))

@@ -6,6 +6,7 @@ use mathlib.Core.List.{List}
 use Prim.Native.Nat.{ℕ, suc, _<_}
 use native.Mathlib.Decide.{decLt}
 use Rattle.laws.proofs.Clash.{clash, never}
+use Rattle.machine.specs.Outcome.{Outcome}
 use Rattle.machine.specs.Object.{Object}
 use Rattle.machine.specs.Lawful.{Opens}
 use Rattle.machine.specs.Memory.{Content, Empty, Memory, stateOf, unmarked}
@@ -84,7 +85,7 @@ answer-accepted k (Go f) = tt
 answer-accepted k (Turn f) = tt
 answer-accepted k (End v) = tt
 
-pub answer-ends : (k : ℕ) (y : Next) (r j : ℕ) → answerOf k y ≡ Ended r j → (ends y ≡ true) × (j ≡ suc k)
+pub answer-ends : (k : ℕ) (y : Next) (r : Outcome) (j : ℕ) → answerOf k y ≡ Ended r j → (ends y ≡ true) × (j ≡ suc k)
 answer-ends k (Go f) r j e = (cc, cc)
 answer-ends k (Turn f) r j e = (cc, cc)
 answer-ends k (End v) r j e = (refl, cc)

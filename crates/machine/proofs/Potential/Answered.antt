@@ -12,6 +12,7 @@ use Rattle.laws.proofs.Clash.{clash}
 use Rattle.laws.proofs.Update.{update-same, update-other}
 use Rattle.laws.proofs.Sums.{but-change, but-others, but-most}
 use Rattle.laws.proofs.Choice.{pick-le, pick-mono}
+use Rattle.machine.specs.Outcome.{Outcome}
 use Rattle.machine.specs.Memory.{HeadValue, Free, Held, Content, Cell, Memory, head-dec, announcement-dec}
 use Rattle.machine.specs.Machine.{Phase, Idle, ReadOnly, Announce, Poll, LoadHead, LinkHead, LoadPriority, LoadOwn, Apply, ReloadApply, LoadHelped, LinkHelped, Validate, HandOver, ReloadHandOver, Release, ReloadRelease, ClearHead, ReloadClear, LoadExit, LinkExit, ClearExit, ReleaseExit, Retract, Task}
 use Rattle.machine.specs.Run.{Config}
@@ -147,7 +148,7 @@ module _ (n : ℕ) (c : Config) (p : ℕ) (lt : p < n) where
 -- ---- The changes of its parts
 
 -- Whether the holder waits goes by the value of the head and by the content of the holder's announcement.
-unanswered-stays : (m m′ : Memory) (h : HeadValue) {h′ : HeadValue} → h′ ≡ h → ((q j r : ℕ) → h ≡ Held q j r → content m′ j ≡ content m j) → unanswered m′ h′ ≡ unanswered m h
+unanswered-stays : (m m′ : Memory) (h : HeadValue) {h′ : HeadValue} → h′ ≡ h → ((q j : ℕ) (r : Outcome) → h ≡ Held q j r → content m′ j ≡ content m j) → unanswered m′ h′ ≡ unanswered m h
 unanswered-stays m m′ (Free q) e f = rw e refl
 unanswered-stays m m′ (Held q j r) e f = rw (e, f q j r refl) refl
 

@@ -9,6 +9,7 @@ use Rattle.laws.specs.Decision.{decided}
 use Rattle.laws.proofs.Update.{update-other}
 use Rattle.laws.proofs.Choice.{pick-le, skip-le}
 use Rattle.cells.specs.Marks.{has}
+use Rattle.machine.specs.Outcome.{Outcome}
 use Rattle.machine.specs.Object.{Object}
 use Rattle.machine.specs.Memory.{Content, Cell, Memory}
 use Rattle.machine.specs.Invariant.{inHead, inAnnouncement, headValue, content}
@@ -92,7 +93,7 @@ module _ (b : Object) (m : Memory) (i x t : ℕ) (w w′ : Work) (same : approac
         clear-due (ℕ-discrete j t) (worksFor t w) (inHead m x) (waiting (content m t)) (λ e. waiting-not (content m t) (resp-not-op (content m t) (rw e at y))),
       ))
 
-  pub applied-changes : (q j r : ℕ) → Allowed b m i (Applied q j r) → changesLeft (effect i (Applied q j r) m) x t w′ ≤ changesLeft m x t w
+  pub applied-changes : (q j : ℕ) (r : Outcome) → Allowed b m i (Applied q j r) → changesLeft (effect i (Applied q j r) m) x t w′ ≤ changesLeft m x t w
   applied-changes q j r (c, o, h, y, _, _) =
       rw (same, h) (omega (
         arith,

@@ -10,6 +10,7 @@ use Rattle.laws.proofs.Update.{update-all, update-same, update-other}
 use Rattle.laws.proofs.Choice.{pick-le}
 use Rattle.cells.specs.Marks.{has, add}
 use Rattle.cells.proofs.MarkLaws.{has-none, has-add-other, has-remove, has-remove-other, add-has}
+use Rattle.machine.specs.Outcome.{Outcome}
 use Rattle.machine.specs.Object.{Object}
 use Rattle.machine.specs.Memory.{HeadValue, Held, Content, Empty, Op, Resp, Cell, Memory, unmarked, head-dec, announcement-dec}
 use Rattle.machine.specs.Machine.{linked, released}
@@ -44,7 +45,7 @@ pub record Ordinary (m m′ : Memory) (i : ℕ) (k : EffectRow) : Type 0 where
   pub own : one (inHead m′ i) ≤ one (inHead m i) + one (k .links)
   -- The announcements of the other tasks, and of the holder, keep their contents.
   pub contents : (x : ℕ) → x ≢ i → content m′ x ≡ content m x
-  pub holder : (q j r : ℕ) → headValue m ≡ Held q j r → content m′ j ≡ content m j
+  pub holder : (q j : ℕ) (r : Outcome) → headValue m ≡ Held q j r → content m′ j ≡ content m j
   -- A compared word goes stale at a cost alone.
   pub words : (w : Compared) → stale m′ w ≤ stale m w + k .cost (inHead m i)
 
@@ -76,7 +77,7 @@ module _ (m : Memory) (i : ℕ) where
   -- An announcement that keeps its content, or the own one of a task that doesn't hold the head.
   announcement-ordinary : (j : ℕ) (a : Cell Content) (k : EffectRow) → k .stage ≡ 0 → k .cost (inHead m i) ≡ 5
       → ((x : ℕ) → x ≢ i → content (withAnnouncement m j a) x ≡ content m x)
-      → ((q t r : ℕ) → headValue m ≡ Held q t r → content (withAnnouncement m j a) t ≡ content m t)
+      → ((q t : ℕ) (r : Outcome) → headValue m ≡ Held q t r → content (withAnnouncement m j a) t ≡ content m t)
       → Ordinary m (withAnnouncement m j a) i k
   announcement-ordinary j a k s e f g = record {
     stage = s;
@@ -104,8 +105,8 @@ module _ (m : Memory) (i : ℕ) where
 pub data OrdinaryOrStage (b : Object) (m : Memory) (i : ℕ) : Effect → Type 0 where
   ordinary : {e : Effect} → Ordinary m (effect i e m) i (effectRow e) → OrdinaryOrStage b m i e
   clears : Allowed b m i Cleared → OrdinaryOrStage b m i Cleared
-  applies : {q j r : ℕ} → Allowed b m i (Applied q j r) → OrdinaryOrStage b m i (Applied q j r)
-  hands-over : {j r : ℕ} → Allowed b m i (HandedOver j r) → OrdinaryOrStage b m i (HandedOver j r)
+  applies : {q j : ℕ} {r : Outcome} → Allowed b m i (Applied q j r) → OrdinaryOrStage b m i (Applied q j r)
+  hands-over : {j : ℕ} {r : Outcome} → Allowed b m i (HandedOver j r) → OrdinaryOrStage b m i (HandedOver j r)
 
 pub ordinary-or-stage : (b : Object) (m : Memory) (i : ℕ) (e : Effect) → Allowed b m i e → OrdinaryOrStage b m i e
 ordinary-or-stage b m i Unchanged a = ordinary (unchanged m i)

@@ -9,6 +9,7 @@ use Rattle.laws.proofs.Clash.{clash, never}
 use Rattle.laws.proofs.Update.{update-same, update-other}
 use Rattle.laws.proofs.Sums.{but-at-most}
 use Rattle.laws.proofs.Choice.{pick-le}
+use Rattle.machine.specs.Outcome.{Outcome}
 use Rattle.machine.specs.Object.{Object}
 use Rattle.machine.specs.Memory.{Free, Held, Content, Empty, Op, Resp, Memory, stateOf}
 use Rattle.machine.specs.Machine.{Task, Next, phaseOf, turns, advance}
@@ -184,7 +185,7 @@ module _ (b : Object) (n i : ℕ) (lt : i < n) (c : Config) (safe : Safe c) (bel
       go (rewritten w f) = clash w (false-of (effectRow e .writes i i) (omega (arith, o .stage)))
       go (kept w v a f) = v
 
-  own-answered : {e : Effect} {r : ℕ} → OrdinaryOrStage b m i e → one (effectRow e .writes i i) ≤ effectRow e .stage → content m i ≡ Resp r → content (effect i e m) i ≡ Resp r
+  own-answered : {e : Effect} {r : Outcome} → OrdinaryOrStage b m i e → one (effectRow e .writes i i) ≤ effectRow e .stage → content m i ≡ Resp r → content (effect i e m) i ≡ Resp r
   own-answered {e} (ordinary o) h f = own-stays e o h ∙ f
   own-answered (clears a) h f = f
   own-answered (applies a) h f = f

@@ -9,6 +9,7 @@ use Rattle.laws.proofs.Update.{update-same}
 use Rattle.laws.proofs.Decision.{decided-yes}
 use Rattle.laws.proofs.Choice.{pick-le}
 use Rattle.cells.proofs.MarkLaws.{has-add}
+use Rattle.machine.specs.Outcome.{Outcome}
 use Rattle.machine.specs.Object.{Object}
 use Rattle.machine.specs.Memory.{HeadValue, Held, Content, Cell, Memory, head-dec, announcement-dec}
 use Rattle.machine.specs.Machine.{Phase, Next, phaseOf, linked}
@@ -49,10 +50,10 @@ pub data OwnSeen (r : Row) (F : Type 0) : Kind → Effect → Kind → Type 0 wh
   reads : OwnSeen r F Reading Unchanged Off
   opens : {o : ℕ} → OwnSeen r F Opening (Announced o) Looping
   works : {k k′ : Kind} {e : Effect} → F → OwnSeen r F k e k′
-  ends : {v : ℕ} → 1 ≤ r .position true → OwnSeen r F (Retracting v) Retracted Off
+  ends : {v : Outcome} → 1 ≤ r .position true → OwnSeen r F (Retracting v) Retracted Off
 
 -- The holder's part of the head is due.
-pub held-own : (m : Memory) {i q r : ℕ} → headValue m ≡ Held q i r → atHead m i ≡ true
+pub held-own : (m : Memory) {i q : ℕ} {r : Outcome} → headValue m ≡ Held q i r → atHead m i ≡ true
 held-own m {i} e = go (inHead m i)
   where
     go : (x : Bool) → (x || holds i (headValue m)) ≡ true

@@ -12,6 +12,7 @@ use Rattle.laws.proofs.Sums.{but-rise, but-rises, but-at-most}
 use Rattle.laws.proofs.Decision.{decided-no}
 use Rattle.cells.specs.Marks.{has}
 use Rattle.cells.proofs.MarkLaws.{has-none}
+use Rattle.machine.specs.Outcome.{Outcome}
 use Rattle.machine.specs.Object.{Object}
 use Rattle.machine.specs.Memory.{HeadValue, Held, Content, Resp, Memory, unmarked}
 use Rattle.machine.specs.Machine.{Phase, Poll, Task, Next, phaseOf, turns, advance}
@@ -37,14 +38,14 @@ module _ {b : Object} {m : Memory} {i k o : ℕ} where
   clear-keeps-turn (clear e) = refl
   clear-keeps-turn (clear-exit e) = refl
 
-  pub hand-over-keeps-turn : {f : Phase} {y : Next} {j r : ℕ} → Branch b m i k o f (HandedOver j r) y → turns y ≡ false
+  pub hand-over-keeps-turn : {f : Phase} {y : Next} {j : ℕ} {r : Outcome} → Branch b m i k o f (HandedOver j r) y → turns y ≡ false
   hand-over-keeps-turn (hand-over e) = refl
 
-  hand-over-keeps-rank : {f : Phase} {y : Next} {j r : ℕ} → Branch b m i k o f (HandedOver j r) y → row (phaseOf y) .rank ≡ row f .rank
+  hand-over-keeps-rank : {f : Phase} {y : Next} {j : ℕ} {r : Outcome} → Branch b m i k o f (HandedOver j r) y → row (phaseOf y) .rank ≡ row f .rank
   hand-over-keeps-rank (hand-over e) = refl
 
   -- A task that applies or clears loses its mark in the head.
-  pub apply-rank : {f : Phase} {y : Next} {q j r : ℕ} → Branch b m i k o f (Applied q j r) y → row (phaseOf y) .rank true false (answered (content m i)) ≤ row f .rank false (inHead m i) (answered (content m i)) + 13
+  pub apply-rank : {f : Phase} {y : Next} {q j : ℕ} {r : Outcome} → Branch b m i k o f (Applied q j r) y → row (phaseOf y) .rank true false (answered (content m i)) ≤ row f .rank false (inHead m i) (answered (content m i)) + 13
   apply-rank (apply e) = omega (arith, extras true false (answered (content m i)), extras false (inHead m i) (answered (content m i)))
 
   pub clear-rank : {f : Phase} {y : Next} → Branch b m i k o f Cleared y → OwnContent (content m i) o (kind f) → row (phaseOf y) .rank false false (answered (content m i)) ≤ row f .rank true (inHead m i) (answered (content m i)) + 3
@@ -56,7 +57,7 @@ module _ {b : Object} {m : Memory} {i k o : ℕ} where
   announces-polls announce = refl
 
 -- The task that applies another one than p comes nearer to p.
-pub apply-turns : {b : Object} {m : Memory} {i o : ℕ} (n p : ℕ) (t : Task) {f : Phase} {y : Next} {q j r : ℕ} → Branch b m i (t .priority) o f (Applied q j r) y → p < n → t .priority < n → j ≢ p
+pub apply-turns : {b : Object} {m : Memory} {i o : ℕ} (n p : ℕ) (t : Task) {f : Phase} {y : Next} {q j : ℕ} {r : Outcome} → Branch b m i (t .priority) o f (Applied q j r) y → p < n → t .priority < n → j ≢ p
     → dist n p (advance n t y .priority) (row (phaseOf y) .work) + 1 ≤ dist n p (t .priority) (row f .work)
 apply-turns n p t (apply {j = j} e) l h d = omega (arith, applies-other n p (t .priority) j l h d)
 
@@ -78,11 +79,11 @@ module _ (b : Object) (n i : ℕ) (c : Config) (p : ℕ) where
   pub clear-head : (y : Next) → HeadDue n c (moved n i c Cleared y) p
   clear-head y = over (rw (has-none p) refl)
 
-  pub apply-head : {q j r : ℕ} (y : Next) → IsResp (content (c .memory) p) → Allowed b (c .memory) i (Applied q j r) → HeadDue n c (moved n i c (Applied q j r) y) p
+  pub apply-head : {q j : ℕ} {r : Outcome} (y : Next) → IsResp (content (c .memory) p) → Allowed b (c .memory) i (Applied q j r) → HeadDue n c (moved n i c (Applied q j r) y) p
   apply-head {j = j} y f (_, x, _, w, _, _) =
       over (rw (has-none p) (decided-no (ℕ-discrete j p) (λ z. resp-not-op (content (c .memory) p) f (rw (← z, w) tt))))
 
-  module _ {j r : ℕ} {y : Next} (v : Steps b i c (HandedOver j r) y) (a : Allowed b (c .memory) i (HandedOver j r)) where
+  module _ {j : ℕ} {r : Outcome} {y : Next} (v : Steps b i c (HandedOver j r) y) (a : Allowed b (c .memory) i (HandedOver j r)) where
     abbrev m′ : Memory
     m′ = effect i (HandedOver j r) (c .memory)
 

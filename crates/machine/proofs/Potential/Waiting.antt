@@ -12,6 +12,7 @@ use Rattle.laws.proofs.Update.{update-same, update-other}
 use Rattle.laws.proofs.Sums.{sum-most, sum-change, but-change, but-most}
 use Rattle.laws.proofs.Choice.{pick-le}
 use Rattle.cells.specs.Marks.{has}
+use Rattle.machine.specs.Outcome.{Outcome}
 use Rattle.machine.specs.Object.{Object}
 use Rattle.machine.specs.Memory.{HeadValue, Free, Held, Content, Op, Resp, Cell, Memory, unmarked}
 use Rattle.machine.specs.Machine.{Poll, Task, cleared}
@@ -65,7 +66,7 @@ module _ (n i : ℕ) (lt : i < n) (c : Config) (m′ : Memory) (t′ : Task) whe
 -- ---- The weights of the stage changes
 
 -- They go by the value of the head and by the content of its holder's announcement.
-pub stages-stay : (n p d d′ : ℕ) (m m′ : Memory) (h : HeadValue) {h′ : HeadValue} → h′ ≡ h → d′ ≤ d → ((q j r : ℕ) → h ≡ Held q j r → content m′ j ≡ content m j) → stageWeights n p d′ m′ h′ ≤ stageWeights n p d m h
+pub stages-stay : (n p d d′ : ℕ) (m m′ : Memory) (h : HeadValue) {h′ : HeadValue} → h′ ≡ h → d′ ≤ d → ((q j : ℕ) (r : Outcome) → h ≡ Held q j r → content m′ j ≡ content m j) → stageWeights n p d′ m′ h′ ≤ stageWeights n p d m h
 stages-stay n p d d′ m m′ (Free q) e l f = rw e (omega (arith, mul-le-mul-right (cycleWeight n) l))
 stages-stay n p d d′ m m′ (Held q j r) e l f = rw (e, f q j r refl) (go (ℕ-discrete j p) (cond (waiting (content m j)) handOverWeight 0))
   where
@@ -83,14 +84,14 @@ stages-most n p d m (Held q j r) = go (ℕ-discrete j p) (waiting (content m j))
 
 -- A stage change, while p waits with o.
 module _ (b : Object) (n : ℕ) (m : Memory) (i p o d d′ : ℕ) (f : content m p ≡ Op o) where
-  held-by : (m : Memory) (d q j r : ℕ) → j ≢ p → stageWeights n p d m (Held q j r) ≡ d * cycleWeight n + applyWeight n + clearWeight n + cond (waiting (content m j)) handOverWeight 0
+  held-by : (m : Memory) (d q j : ℕ) (r : Outcome) → j ≢ p → stageWeights n p d m (Held q j r) ≡ d * cycleWeight n + applyWeight n + clearWeight n + cond (waiting (content m j)) handOverWeight 0
   held-by m d q j r z = if-neg (ℕ-discrete j p) z 0 _
 
   pub stages-clear : Allowed b m i Cleared → d′ ≤ d → stageWeights n p d′ (effect i Cleared m) (headValue (effect i Cleared m)) + clearWeight n ≤ stageWeights n p d m (headValue m)
   stages-clear (q, j, r, h, y) l =
       rw (h, held-by m d q j r (λ z. resp-not-op (content m p) (rw z at y) (rw f tt))) (omega (arith, mul-le-mul-right (cycleWeight n) l))
 
-  pub stages-apply : (q j r : ℕ) → Allowed b m i (Applied q j r) → (j ≢ p → d′ + 1 ≤ d)
+  pub stages-apply : (q j : ℕ) (r : Outcome) → Allowed b m i (Applied q j r) → (j ≢ p → d′ + 1 ≤ d)
       → stageWeights n p d′ (effect i (Applied q j r) m) (headValue (effect i (Applied q j r) m)) + applyWeight n ≤ stageWeights n p d m (headValue m)
   stages-apply q j r (c, x, h, y, _, _) l = rw h (go (ℕ-discrete j p))
     where
@@ -98,7 +99,7 @@ module _ (b : Object) (n : ℕ) (m : Memory) (i p o d d′ : ℕ) (f : content m
       go (yes e) = omega arith
       go (no z) = omega (arith, pick-le (waiting (content m j)) handOverWeight, mul-le-mul-right (cycleWeight n) (l z))
 
-  pub stages-hand-over : (j r : ℕ) → Allowed b m i (HandedOver j r) → j ≢ p → d′ ≤ d → stageWeights n p d′ (effect i (HandedOver j r) m) (headValue m) + handOverWeight ≤ stageWeights n p d m (headValue m)
+  pub stages-hand-over : (j : ℕ) (r : Outcome) → Allowed b m i (HandedOver j r) → j ≢ p → d′ ≤ d → stageWeights n p d′ (effect i (HandedOver j r) m) (headValue m) + handOverWeight ≤ stageWeights n p d m (headValue m)
   stages-hand-over j r (q, x, h, y) z l =
       let a : content (effect i (HandedOver j r) m) j ≡ Resp r = value-found (update-same (m .announcement) j _) in
       rw (h, held-by m d q j r z, held-by (effect i (HandedOver j r) m) d′ q j r z, y, a) (omega (arith, mul-le-mul-right (cycleWeight n) l))

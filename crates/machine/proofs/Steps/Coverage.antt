@@ -7,6 +7,7 @@ use native.Mathlib.Decide.{ℕ-discrete}
 use Rattle.laws.specs.Update.{update}
 use Rattle.laws.specs.Decision.{decided}
 use Rattle.laws.proofs.Clash.{never}
+use Rattle.machine.specs.Outcome.{Outcome}
 use Rattle.machine.specs.Object.{Object}
 use Rattle.machine.specs.Memory.{HeadValue, Free, Held, Content, Empty, Op, Resp, Cell, Memory, head-dec, announcement-dec}
 use Rattle.machine.specs.Machine.{Phase, Idle, ReadOnly, Announce, Poll, LoadHead, LinkHead, LoadPriority, LoadOwn, Apply, ReloadApply, LoadHelped, LinkHelped, Validate, HandOver, ReloadHandOver, Release, ReloadRelease, ClearHead, ReloadClear, LoadExit, LinkExit, ClearExit, ReleaseExit, Retract, linked, released, cleared, plan, result, perform, after, Next, afterPoll, afterLink, afterPriority, afterOwn, afterLinkHelped, afterExit}
@@ -17,7 +18,7 @@ use Rattle.machine.proofs.Steps.Branch.{Branch, stay-idle, read-only, a
 pub free-not-holder : {v : HeadValue} {q i : ℕ} → v ≡ Free q → NotHolder v i
 free-not-holder e q′ r f = never cc
 
-pub held-not-holder : {v : HeadValue} {q j r i : ℕ} → v ≡ Held q j r → j ≢ i → NotHolder v i
+pub held-not-holder : {v : HeadValue} {q j : ℕ} {r : Outcome} {i : ℕ} → v ≡ Held q j r → j ≢ i → NotHolder v i
 held-not-holder e n q′ r′ f = n cc
 
 -- A step with its effect e, that leads to the cells m′ and to y.
@@ -80,7 +81,7 @@ module _ (b : Object) (m : Memory) (i p x : ℕ) where
   by-holder (yes e) g h = g e
   by-holder (no n) g h = h n
 
-  by-exit : (v : ℕ) (c : Bool) → inHead m i ≡ c → (g : HeadValue) → headValue m ≡ g → Branch b m i p x (LoadExit v) Unchanged (afterExit c i v (m .head) g)
+  by-exit : (v : Outcome) (c : Bool) → inHead m i ≡ c → (g : HeadValue) → headValue m ≡ g → Branch b m i p x (LoadExit v) Unchanged (afterExit c i v (m .head) g)
   by-exit v true c (Free q) e = exit-release c (free-not-holder e)
   by-exit v true c (Held q j r) e = by-holder (ℕ-discrete j i) (λ f. exit-clear c (e ∙ ap (λ t. Held q t r) f)) (λ f. exit-release c (held-not-holder e f))
   by-exit v false c (Free q) e = exit-retract c (free-not-holder e)

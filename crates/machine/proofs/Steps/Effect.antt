@@ -2,6 +2,7 @@
 use mathlib.Core.Path.{_≡_}
 use Prim.Native.Nat.{ℕ}
 use Rattle.laws.specs.Update.{update}
+use Rattle.machine.specs.Outcome.{Outcome}
 use Rattle.machine.specs.Object.{Object}
 use Rattle.machine.specs.Memory.{HeadValue, Free, Held, Content, Empty, Op, Resp, Cell, Memory, unmarked}
 use Rattle.machine.specs.Machine.{linked, released, cleared}
@@ -9,9 +10,9 @@ use Rattle.machine.specs.Invariant.{headValue, content, IsResp, NotHolde
 
 pub data Effect : Type 0 where
   Unchanged Linked Released Cleared Retracted : Effect
-  Applied : (q j r : ℕ) → Effect
+  Applied : (q j : ℕ) (r : Outcome) → Effect
   LinkedAt ReleasedAt : (j : ℕ) → Effect
-  HandedOver : (j r : ℕ) → Effect
+  HandedOver : (j : ℕ) (r : Outcome) → Effect
   Announced : (o : ℕ) → Effect
 
 -- The cells with another head, and with another announcement of task j.
@@ -39,8 +40,8 @@ abbrev pub Allowed : Object → Memory → ℕ → Effect → Type 0
 Allowed b m i Unchanged = Unit {0}
 Allowed b m i Linked = Unit {0}
 Allowed b m i Released = Unit {0}
-Allowed b m i Cleared = (q : ℕ) × (j : ℕ) × (r : ℕ) × (headValue m ≡ Held q j r) × IsResp (content m j)
-Allowed b m i Retracted = (v : ℕ) × (content m i ≡ Resp v) × NotHolder (headValue m) i
+Allowed b m i Cleared = (q : ℕ) × (j : ℕ) × (r : Outcome) × (headValue m ≡ Held q j r) × IsResp (content m j)
+Allowed b m i Retracted = (v : Outcome) × (content m i ≡ Resp v) × NotHolder (headValue m) i
 Allowed b m i (Applied q j r) =
     (c : ℕ) × (x : ℕ) × (headValue m ≡ Free c) × (content m j ≡ Op x) × (q ≡ b .next c x) × (r ≡ b .outcome c x)
 Allowed b m i (LinkedAt j) = Unit {0}

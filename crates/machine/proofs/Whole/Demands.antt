@@ -26,19 +26,19 @@ use Rattle.machine.specs.Keeping.{bookOf}
 
 module _ (b : Object) (n q : ℕ) (good : Opens b q) where
   -- Each call with its answer is a legal step of the book.
-  legal : (xs : List Call) (x : Call) → Legal b n (length xs) (record { call = x; answer = serve b n x (run b n xs (start q)) .answer }) (bookOf b n q xs) (bookOf b n q (xs ++ (x ∷ [])))
+  pub legal : (xs : List Call) (x : Call) → Legal b n (length xs) (record { call = x; answer = serve b n x (run b n xs (start q)) .answer }) (bookOf b n q xs) (bookOf b n q (xs ++ (x ∷ [])))
   legal xs x =
       let s = sound b n q good xs in
       rw (book-grows b n 0 xs (x ∷ []) (start q) _, zero-add) (legal-serve b n (length xs) _ _ (s .related) (s .safe) (s .formed) x)
 
   -- The own steps of a pending operation, by the history.
-  below : (ceiling : ℕ) → bound n ≤ ceiling → (xs : List Call) (t o s : ℕ) → pending (history b n xs (start q)) t ≡ Pends o s → s < ceiling
+  pub below : (ceiling : ℕ) → bound n ≤ ceiling → (xs : List Call) (t o s : ℕ) → pending (history b n xs (start q)) t ≡ Pends o s → s < ceiling
   below ceiling h xs t o s e =
       let r = own-record b n (run b n xs (start q)) (sound b n q good xs .formed) t o s (sym (pending-is b n xs q t) ∙ e) in
       omega (arith, h, pending-steps b n q good xs t (r .below) (λ z. clash (ap off z) (r .works)), r .steps)
 
   -- Demands 2 and 3, with any ceiling that the proved bound doesn't pass.
-  pub demand : (ceiling : ℕ) → bound n ≤ ceiling → Demand b n q ceiling image (machineShows b n q)
+  unfoldable pub demand : (ceiling : ℕ) → bound n ≤ ceiling → Demand b n q ceiling image (machineShows b n q)
   demand ceiling h = record {
     begins = refl;
     told = λ xs x. history-append b n xs (x ∷ []) (start q);
