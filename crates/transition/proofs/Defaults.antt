@@ -19,7 +19,7 @@ use Rattle.records.proofs.phase.Phase as PhaseType
 pub no-operation : (h j a : ℕ) (found : Announcement) → OneOf (0 ∷ 2 ∷ []) (tagOf AnnouncementType.the-type found) → withBoth (Release j) h a ≡ afterLinkHelped h j a found
 no-operation h j a content.Empty k = refl
 no-operation h j a (content.Operation o) k = absurd (miss (0 ∷ 2 ∷ []) 1 tt k)
-no-operation h j a (content.Response r) k = refl
+no-operation h j a (content.Response r v) k = refl
 
 -- The tags of the phases that use no entry: all but ReadOnly and Apply.
 abbrev entryless : List ℕ

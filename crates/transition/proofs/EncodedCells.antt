@@ -10,6 +10,7 @@ use borrow.Author.Tests.{ltb-true, lt-ltb, eq-eqb, ne-eqb}
 use lib.Dec.{eqb, ltb}
 use lib.ListN.{getD}
 use Rattle.laws.specs.Decision.{decided}
+use Rattle.laws.proofs.Bits.{bit-below}
 use Rattle.cells.specs.Field.{pack, Fit}
 use Rattle.cells.specs.Form.{headInForm, announcementInForm}
 use Rattle.cells.specs.Layout.{marksWidth, marks, value, hasMark, addMark, removeMark, headWidths, headValues, headWord, headOf, announcementWidths, announcementValues, announcementWord, announcementOf, kindIn}
@@ -22,10 +23,11 @@ use Rattle.table.specs.declared.Shape.{Shape}
 use Rattle.table.proofs.Fitting.{Fitting}
 use Rattle.table.proofs.Accepted.{accepted-fitting}
 use Rattle.machine.specs.Object.{Object}
+use Rattle.machine.specs.Outcome.{Outcome}
 use Rattle.machine.specs.Memory.{HeadValue, Free, Held, Content, Empty, Op, Resp, Cell, stateOf, outcomeOf, head-dec, announcement-dec}
 use Rattle.machine.specs.Machine.{linked, released}
 use Rattle.machine.specs.Form.{CellFormed, HeadFormed, AnnouncementFormed, HeadValueFormed, ContentFormed}
-use Rattle.transition.specs.Transition.{stateIn, responseIn}
+use Rattle.transition.specs.Transition.{stateIn, responseIn, movedIn}
 use Rattle.transition.specs.Object.{ObjectTable, objectOf}
 use Rattle.transition.specs.Encoding.{headIn, announcementIn, encodeHead, encodeAnnouncement}
 
@@ -68,14 +70,22 @@ module _ {A : Type 0} {n : ℕ} {Ranged : A → Type 0} {word : A → ℕ → �
 
 -- ---- Heads and announcements
 
+-- An outcome is its response and whether the state moved.
+same-outcome : (r s : Outcome) → r .response ≡ s .response → r .moved ≡ s .moved → r ≡ s
+same-outcome r s e f = λ i. record { response = e i; moved = f i }
+
 -- Different values are different heads, and different announcements.
-head-same-value : (v u : HeadValue) → headIn v ≡ headIn u → v ≡ u
+pub head-same-value : (v u : HeadValue) → headIn v ≡ headIn u → v ≡ u
 head-same-value (Free q) (Free p) e = cc
 head-same-value (Free q) (Held p j r) e = cc
 head-same-value (Held q j r) (Free p) e = cc
-head-same-value (Held q j r) (Held p k s) e = cc
+head-same-value (Held q j r) (Held p k s) e =
+    let response : r .response ≡ s .response = cc in
+    let moved : r .moved ≡ s .moved = cc in
+    let same = same-outcome r s response moved in
+    cc
 
-content-same-value : (v u : Content) → announcementIn v ≡ announcementIn u → v ≡ u
+pub content-same-value : (v u : Content) → announcementIn v ≡ announcementIn u → v ≡ u
 content-same-value Empty Empty e = cc
 content-same-value Empty (Op p) e = cc
 content-same-value Empty (Resp s) e = cc
@@ -84,16 +94,23 @@ content-same-value (Op o) (Op p) e = cc
 content-same-value (Op o) (Resp s) e = cc
 content-same-value (Resp r) Empty e = cc
 content-same-value (Resp r) (Op p) e = cc
-content-same-value (Resp r) (Resp s) e = cc
+content-same-value (Resp r) (Resp s) e =
+    let response : r .response ≡ s .response = cc in
+    let moved : r .moved ≡ s .moved = cc in
+    ap Resp (same-outcome r s response moved)
 
--- The state and the response that a head's word says.
+-- The state and the outcome that a head's word says.
 pub state-in : (v : HeadValue) → stateIn (headIn v) ≡ stateOf v
 state-in (Free q) = refl
 state-in (Held q j r) = refl
 
-pub response-in : (v : HeadValue) → responseIn (headIn v) ≡ outcomeOf v
+pub response-in : (v : HeadValue) → responseIn (headIn v) ≡ outcomeOf v .response
 response-in (Free q) = refl
 response-in (Held q j r) = refl
+
+pub moved-in : (v : HeadValue) → movedIn (headIn v) ≡ outcomeOf v .moved
+moved-in (Free q) = refl
+moved-in (Held q j r) = refl
 
 -- Link and release of a head's word and of an announcement's.
 module _ {c : ℕ} {f : ℕ → ℕ → ℕ} (sets : SetsBit c f) (i : ℕ) (few : i < marksWidth) where
@@ -121,12 +138,12 @@ module _ (file : List ℕ) (shape : Shape) (table : ObjectTable file shape) (n :
   -- Values and marks in range fit their fields.
   head-fits : (v : HeadValue) (m : ℕ) → HeadValueFormed object n v → m < 2 ^ n → Fit headWidths (headValues (headIn v) m)
   head-fits (Free q) m f l = let s : q < shape .states = ltb-true _ _ f in omega (arith, few-marks m l, fitting)
-  head-fits (Held q j r) m f l = let s : q < shape .states = ltb-true _ _ (f .0) in omega (arith, few-marks m l, fitting)
+  head-fits (Held q j r) m f l = let s : q < shape .states = ltb-true _ _ (f .0) in omega (arith, few-marks m l, fitting, bit-below (r .moved))
 
   content-fits : (v : Content) (m : ℕ) → ContentFormed object v → m < 2 ^ n → Fit announcementWidths (announcementValues (announcementIn v) m)
   content-fits Empty m f l = omega (arith, few-marks m l)
   content-fits (Op o) m f l = omega (arith, few-marks m l, fitting)
-  content-fits (Resp v) m f l = omega (arith, few-marks m l)
+  content-fits (Resp v) m f l = omega (arith, few-marks m l, bit-below (v .moved))
 
   -- So heads and announcements are cells of the kind above.
   head-coding : Coding n (HeadValueFormed object n) (λ v m. headWord (headIn v) m)

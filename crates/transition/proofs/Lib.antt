@@ -1,5 +1,6 @@
 mod Defaults
 pub mod EncodedCells
+pub mod Payloads
 pub mod Plans
 pub mod Nexts
 pub mod Lawful

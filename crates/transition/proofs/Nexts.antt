@@ -1,10 +1,11 @@
 -- What a step leads to, from an encoded record and an encoded result.
-use mathlib.Core.Path.{_≡_, sym, subst}
+use mathlib.Core.Path.{_≡_}
 use mathlib.Core.Bool.{Bool, true, false, cond}
 use mathlib.Core.List.{List}
 use mathlib.Core.Logic.{ite}
 use Prim.Native.Nat.{ℕ, _<_, _≤_}
 use native.Mathlib.Decide.{ℕ-discrete}
+use native.Mathlib.Omega.{arith}
 use Rattle.laws.specs.Decision.{decided}
 use Rattle.laws.proofs.Choice.{choices}
 use Rattle.laws.proofs.Decision.{eqb-decided}
@@ -12,6 +13,7 @@ use Rattle.cells.specs.Marks.{has}
 use Rattle.cells.specs.Layout.{marksWidth, hasMark, announcementOf}
 use Rattle.table.specs.declared.Shape.{Shape}
 use Rattle.machine.specs.Object.{Object}
+use Rattle.machine.specs.Outcome.{Outcome}
 use Rattle.machine.specs.Memory.{HeadValue, Free, Held, Content, Empty, Op, Resp, Cell, Memory, head-dec, announcement-dec}
 use Rattle.machine.specs.Machine as machine
 use Rattle.machine.specs.Machine.{Idle, ReadOnly, Announce, Poll, LoadHead, LinkHead, LoadPriority, LoadOwn, Apply, ReloadApply, LoadHelped, LinkHelped, Validate, HandOver, ReloadHandOver, Release, ReloadRelease, ClearHead, ReloadClear, LoadExit, LinkExit, ClearExit, ReleaseExit, Retract, linked, plan, result, after}
@@ -21,15 +23,16 @@ use Rattle.transition.specs.declared.access.Next.{Next}
 use Rattle.transition.specs.declared.access.Next.the-variants.{Go, Turn, End}
 use Rattle.transition.specs.Transition.{madeIn, afterPoll, afterLink, afterPriority, afterOwn, afterLinkHelped, holderIs, afterExit, nextOf}
 use Rattle.transition.specs.Object.{ObjectTable, objectOf}
-use Rattle.transition.specs.Encoding.{headIn, announcementIn, encodeHead, encodeAnnouncement, kept, encodeResult}
+use Rattle.transition.specs.Encoding.{headIn, announcementIn, encodeHead, encodeAnnouncement, keptOutcome, kept, encodeResult}
 use Rattle.transition.proofs.EncodedCells.{head-read, head-has, head-linked, announcement-read, announcement-has, announcement-linked}
-use Rattle.transition.proofs.Plans.{recordIn, head-state, named-outcome}
+use Rattle.transition.proofs.Payloads.{response-kept, moved-kept}
+use Rattle.transition.proofs.Plans.{recordIn, head-state}
 
 -- What a step leads to, and how a record says it.
 pub data Encodes : machine.Next → Next → Type 0 where
   goes : (f : machine.Phase) → Encodes (machine.Go f) (Go (kept f .phase) (kept f .payload) (kept f .head) (kept f .announcement))
   turns : Encodes (machine.Turn Poll) Turn
-  ends : (v : ℕ) → Encodes (machine.End v) (End v)
+  ends : (v : Outcome) → Encodes (machine.End v) (End (v .response) (v .moved))
 
 -- By whether a swap was made.
 swap : (made : Bool) {y y′ : machine.Next} {z z′ : Next} → Encodes y z → Encodes y′ z′ → Encodes (cond made y y′) (cond (madeIn (cond made Swapped Unswapped)) z z′)
@@ -61,14 +64,14 @@ helped-next h j a Empty = goes (Release h j a)
 helped-next h j a (Op o) = goes (Validate h j a)
 helped-next h j a (Resp v) = goes (Release h j a)
 
-module _ (i v : ℕ) (h : Cell HeadValue) where
-  holder-next : (marked : Bool) {P : Type 0} (d : Dec P) → Encodes (cond marked (ite d (machine.Go (ClearExit h v)) (machine.Go (ReleaseExit h v))) (ite d (machine.Go (LinkExit h v)) (machine.Go (Retract v)))) (afterExit v (encodeHead h) marked (decided d))
+module _ (i : ℕ) (v : Outcome) (h : Cell HeadValue) where
+  holder-next : (marked : Bool) {P : Type 0} (d : Dec P) → Encodes (cond marked (ite d (machine.Go (ClearExit h v)) (machine.Go (ReleaseExit h v))) (ite d (machine.Go (LinkExit h v)) (machine.Go (Retract v)))) (afterExit (keptOutcome v) (encodeHead h) marked (decided d))
   holder-next true (yes e) = goes (ClearExit h v)
   holder-next true (no e) = goes (ReleaseExit h v)
   holder-next false (yes e) = goes (LinkExit h v)
   holder-next false (no e) = goes (Retract v)
 
-  exit-next : (marked : Bool) (u : HeadValue) → Encodes (machine.afterExit marked i v h u) (afterExit v (encodeHead h) marked (holderIs i (headIn u)))
+  exit-next : (marked : Bool) (u : HeadValue) → Encodes (machine.afterExit marked i v h u) (afterExit (keptOutcome v) (encodeHead h) marked (holderIs i (headIn u)))
   exit-next true (Free q) = goes (ReleaseExit h v)
   exit-next false (Free q) = goes (Retract v)
   exit-next true (Held q j r) = rw (eqb-decided j i (ℕ-discrete j i)) (holder-next true (ℕ-discrete j i))
@@ -122,4 +125,4 @@ module _ (file : List ℕ) (shape : Shape) (table : ObjectTable file shape) (n :
   next-simulates (LinkExit h v) r = rw (head-linked file shape table n most h (r .0) i below) (swap (headMade h) (goes (ClearExit (linked i h) v)) (goes (LoadExit v)))
   next-simulates (ClearExit h v) r = swap (headMade h) (goes (Retract v)) (goes (LoadExit v))
   next-simulates (ReleaseExit h v) r = swap (headMade h) (goes (Retract v)) (goes (LoadExit v))
-  next-simulates (Retract v) r = subst (λ w. Encodes (machine.End v) (End w)) (sym (named-outcome file shape table n most v r)) (ends v)
+  next-simulates (Retract v) r = let small : v .response < 65536 = omega (arith, r) in rw (response-kept (v .response) (v .moved) small, moved-kept (v .response) (v .moved) small) (ends v)

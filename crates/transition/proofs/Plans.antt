@@ -2,28 +2,27 @@
 use mathlib.Core.Path.{_≡_, refl, ap, _∙_}
 use mathlib.Core.Bool.{true}
 use mathlib.Core.List.{List}
-use Prim.Native.Nat.{ℕ, _+_, _^_, _<_, _≤_}
+use Prim.Native.Nat.{ℕ, _+_, _<_, _≤_}
 use native.Mathlib.Nat.{mod-eq-of-lt}
 use native.Mathlib.Omega.{arith}
 use borrow.Author.Tests.{ltb-true}
 use Rattle.cells.specs.Field.{pack}
-use Rattle.cells.specs.Layout.{marksWidth, responseWidth, headOf, announcementWord}
-use Rattle.cells.specs.declared.announcement.Announcement.the-variants as content
+use Rattle.cells.specs.Layout.{marksWidth, headOf, announcementWord}
 use Rattle.table.specs.declared.Shape.{Shape}
 use Rattle.table.specs.Entries.{entryInRange}
 use Rattle.table.proofs.Accepted.{accepted-fitting, accepted-entry}
 use Rattle.machine.specs.Object.{Object}
-use Rattle.machine.specs.Memory.{HeadValue, Cell, stateOf, outcomeOf}
+use Rattle.machine.specs.Memory.{HeadValue, Resp, Cell, stateOf, outcomeOf}
 use Rattle.machine.specs.Machine as machine
 use Rattle.machine.specs.Machine.{Idle, ReadOnly, Announce, Poll, LoadHead, LinkHead, LoadPriority, LoadOwn, Apply, ReloadApply, LoadHelped, LinkHelped, Validate, HandOver, ReloadHandOver, Release, ReloadRelease, ClearHead, ReloadClear, LoadExit, LinkExit, ClearExit, ReleaseExit, Retract, plan}
 use Rattle.machine.specs.Form.{HeadFormed, PhaseFormed}
 use Rattle.machine.proofs.Invariant.Ranges.{state-good}
 use Rattle.records.specs.declared.record.Task.{Task}
 use Rattle.transition.specs.declared.access.Access.the-variants.{Swap}
-use Rattle.transition.specs.Transition.{stateIn, responseIn, named, clearedWord, appliedWord, operationWord, responseWord, planOf}
+use Rattle.transition.specs.Transition.{stateIn, responseIn, movedIn, named, clearedWord, appliedWord, operationWord, responseWord, planOf}
 use Rattle.transition.specs.Object.{ObjectTable, objectOf}
-use Rattle.transition.specs.Encoding.{encodeHead, encodeAnnouncement, kept, encodeTask, encodeAccess}
-use Rattle.transition.proofs.EncodedCells.{state-in, response-in, head-read, head-linked, head-released, announcement-linked, announcement-released}
+use Rattle.transition.specs.Encoding.{announcementIn, encodeHead, encodeAnnouncement, kept, encodeTask, encodeAccess}
+use Rattle.transition.proofs.EncodedCells.{state-in, response-in, moved-in, head-read, head-linked, head-released, announcement-linked, announcement-released}
 
 -- The record of a task in a phase, with its priority, operation and steps.
 abbrev pub recordIn : machine.Phase → (priority operation steps : ℕ) → Task
@@ -33,10 +32,7 @@ module _ (file : List ℕ) (shape : Shape) (table : ObjectTable file shape) (n :
   abbrev object : Object
   object = objectOf file shape
 
-  -- A payload in range names itself.
-  pub named-outcome : (v : ℕ) → v < 2 ^ responseWidth → named v ≡ v
-  named-outcome v l = mod-eq-of-lt (omega arith)
-
+  -- An operation in range is the one that its payload names.
   pub named-operation : (o : ℕ) → o < shape .operations → named o ≡ o
   named-operation o l = mod-eq-of-lt (omega (arith, accepted-fitting file shape (table .accepted)))
 
@@ -45,8 +41,11 @@ module _ (file : List ℕ) (shape : Shape) (table : ObjectTable file shape) (n :
     pub head-state : stateIn (headOf (encodeHead h)) ≡ stateOf (h .value)
     head-state = ap stateIn (head-read file shape table n most h ranged) ∙ state-in (h .value)
 
-    head-response : responseIn (headOf (encodeHead h)) ≡ outcomeOf (h .value)
+    head-response : responseIn (headOf (encodeHead h)) ≡ outcomeOf (h .value) .response
     head-response = ap responseIn (head-read file shape table n most h ranged) ∙ response-in (h .value)
+
+    head-moved : movedIn (headOf (encodeHead h)) ≡ outcomeOf (h .value) .moved
+    head-moved = ap movedIn (head-read file shape table n most h ranged) ∙ moved-in (h .value)
 
     -- The entry of the head's state is in range.
     pub head-entry : (o : ℕ) → o < shape .operations → entryInRange file shape (stateIn (headOf (encodeHead h))) o ≡ true
@@ -60,9 +59,9 @@ module _ (file : List ℕ) (shape : Shape) (table : ObjectTable file shape) (n :
     unfolding appliedWord
     applied-word j o l = rw (head-state, named-operation o l)
 
-    response-word : responseWord (encodeHead h) ≡ announcementWord (content.Response (outcomeOf (h .value))) 0
+    response-word : responseWord (encodeHead h) ≡ announcementWord (announcementIn (Resp (outcomeOf (h .value)))) 0
     unfolding responseWord
-    response-word = rw head-response
+    response-word = rw (head-response, head-moved)
 
   module _ (i p x s : ℕ) (below : i < n) where
     -- The planned access.

@@ -6,6 +6,7 @@ use Rattle.cells.specs.declared.head.Head.{Head}
 use Rattle.cells.specs.declared.head.Head.the-variants as word
 use Rattle.cells.specs.declared.announcement.Announcement.{Announcement}
 use Rattle.cells.specs.declared.announcement.Announcement.the-variants as content
+use Rattle.machine.specs.Outcome.{Outcome}
 use Rattle.machine.specs.Memory.{HeadValue, Free, Held, Content, Empty, Op, Resp, Cell}
 use Rattle.machine.specs.Machine as machine
 use Rattle.machine.specs.Machine.{Idle, ReadOnly, Announce, Poll, LoadHead, LinkHead, LoadPriority, LoadOwn, Apply, ReloadApply, LoadHelped, LinkHelped, Validate, HandOver, ReloadHandOver, Release, ReloadRelease, ClearHead, ReloadClear, LoadExit, LinkExit, ClearExit, ReleaseExit, Retract, NoAccess, ReadHead, ReadAnnouncement, WriteAnnouncement, SwapHead, SwapAnnouncement, Nothing, HeadRead, AnnouncementRead}
@@ -13,6 +14,7 @@ use Rattle.records.specs.declared.record.Task.{Task}
 use Rattle.records.specs.declared.phase.Phase.{Phase}
 use Rattle.records.specs.declared.phase.Phase.the-variants as phase
 use Rattle.records.specs.Phase.{phaseNumber}
+use Rattle.transition.specs.Transition.{payloadOf}
 use Rattle.transition.specs.declared.access.Access.{Access}
 use Rattle.transition.specs.declared.access.Access.the-variants.{Read, Write, Swap}
 use Rattle.transition.specs.declared.access.Found.{Found}
@@ -23,12 +25,12 @@ use Rattle.transition.specs.declared.access.Found.the-variants.{Word, St
 -- The head and the announcement that a word says, of a value.
 abbrev pub headIn : HeadValue → Head
 headIn (Free q) = word.Free q
-headIn (Held q j r) = word.Held q j r
+headIn (Held q j r) = word.Held q j (r .response) (r .moved)
 
 abbrev pub announcementIn : Content → Announcement
 announcementIn Empty = content.Empty
 announcementIn (Op o) = content.Operation o
-announcementIn (Resp v) = content.Response v
+announcementIn (Resp v) = content.Response (v .response) (v .moved)
 
 -- The word of a cell.
 abbrev pub encodeHead : Cell HeadValue → ℕ
@@ -48,6 +50,10 @@ pub record Kept : Type 0 where
 
 abbrev pub keep : Phase → (payload head announcement : ℕ) → Kept
 keep f v h a = record { phase = f; payload = v; head = h; announcement = a }
+
+-- The payload that keeps an outcome.
+abbrev pub keptOutcome : Outcome → ℕ
+keptOutcome v = payloadOf (v .response) (v .moved)
 
 -- A field in which the phase has saved nothing is 0. The task that ClearHead and ReloadClear work for is the saved head's holder.
 abbrev pub kept : machine.Phase → Kept
@@ -70,11 +76,11 @@ kept (Release h j a) = keep (phase.Release j) 0 (encodeHead h) (encodeAnnounceme
 kept (ReloadRelease h j a) = keep (phase.ReloadRelease j) 0 (encodeHead h) (encodeAnnouncement a)
 kept (ClearHead h j) = keep phase.ClearHead 0 (encodeHead h) 0
 kept (ReloadClear h j) = keep phase.ReloadClear 0 (encodeHead h) 0
-kept (LoadExit v) = keep phase.LoadExit v 0 0
-kept (LinkExit h v) = keep phase.LinkExit v (encodeHead h) 0
-kept (ClearExit h v) = keep phase.ClearExit v (encodeHead h) 0
-kept (ReleaseExit h v) = keep phase.ReleaseExit v (encodeHead h) 0
-kept (Retract v) = keep phase.Retract v 0 0
+kept (LoadExit v) = keep phase.LoadExit (keptOutcome v) 0 0
+kept (LinkExit h v) = keep phase.LinkExit (keptOutcome v) (encodeHead h) 0
+kept (ClearExit h v) = keep phase.ClearExit (keptOutcome v) (encodeHead h) 0
+kept (ReleaseExit h v) = keep phase.ReleaseExit (keptOutcome v) (encodeHead h) 0
+kept (Retract v) = keep phase.Retract (keptOutcome v) 0 0
 
 -- The record of a task.
 abbrev pub encodeTask : machine.Task → Task

@@ -8,7 +8,7 @@ use Rattle.table.specs.declared.Shape.{Shape}
 use Rattle.table.specs.declared.Checked.the-variants as table
 use Rattle.table.specs.File.{Bytes}
 use Rattle.table.specs.Check.{checkOf}
-use Rattle.table.specs.Entries.{entryOf, changing}
+use Rattle.table.specs.Entries.{entryOf, moves, changing}
 use Rattle.machine.specs.Object.{Object}
 
 -- A file of bytes that is accepted as a table of this shape.
@@ -16,11 +16,12 @@ pub record ObjectTable (file : List ℕ) (shape : Shape) : Type 0 where
   pub bytes : Bytes file
   pub accepted : checkOf file ≡ table.Accepted shape
 
--- Its object: next state and response stand in its entries, and the good states are those of the table.
+-- Its object: next state and response stand in its entries, an entry with another next state than its own moves the state, and the
+-- good states are those of the table.
 abbrev pub objectOf : List ℕ → Shape → Object
 objectOf file shape = record {
   next = λ q o. entryOf file shape q o .next;
-  outcome = λ q o. entryOf file shape q o .response;
+  outcome = λ q o. record { response = entryOf file shape q o .response; moved = moves file shape q o };
   changing = changing file shape;
   operations = shape .operations;
   outcomes = 2 ^ responseWidth;

@@ -1,15 +1,16 @@
 -- What each phase does: the access that it plans, the entry of the table that it uses, and what follows from what comes back.
 use mathlib.Core.Bool.{Bool, true, false, cond}
 use mathlib.Core.List.{List}
-use Prim.Native.Nat.{ℕ, _+_, _%_}
+use Prim.Native.Nat.{ℕ, _+_, _*_, _/_, _%_}
 use lib.Dec.{eqb}
+use Rattle.laws.specs.Bit.{bit}
 use Rattle.cells.specs.Layout.{hasMark, addMark, removeMark, headWord, headOf, announcementWord, announcementOf}
 use Rattle.cells.specs.declared.head.Head.{Head}
 use Rattle.cells.specs.declared.head.Head.the-variants.{Free, Held}
 use Rattle.cells.specs.declared.announcement.Announcement.{Announcement}
 use Rattle.cells.specs.declared.announcement.Announcement.the-variants as content
 use Rattle.table.specs.declared.Shape.{Shape}
-use Rattle.table.specs.Entries.{entryOf, entryInRange}
+use Rattle.table.specs.Entries.{entryOf, entryInRange, moves}
 use Rattle.records.specs.declared.record.Task.{Task}
 use Rattle.records.specs.declared.phase.Phase.{Phase}
 use Rattle.records.specs.declared.phase.Phase.the-variants.{Idle, ReadOnly, Announce, Poll, LoadHead, LinkHead, LoadPriority, LoadOwn, LoadExit, LinkExit, ClearExit, ReleaseExit, Retract, ClearHead, ReloadClear, Apply, ReloadApply, LoadHelped, LinkHelped, Validate, HandOver, ReloadHandOver, Release, ReloadRelease}
@@ -25,16 +26,29 @@ use Rattle.transition.specs.declared.access.Next.the-variants.{Go, Turn,
 -- The state in a head.
 abbrev pub stateIn : Head → ℕ
 stateIn (Free q) = q
-stateIn (Held q j r) = q
+stateIn (Held q j r v) = q
 
 -- The response in a head, 0 without a holder.
 abbrev pub responseIn : Head → ℕ
 responseIn (Free q) = 0
-responseIn (Held q j r) = r
+responseIn (Held q j r v) = r
+
+-- Whether a head says that the state moved; without a holder it doesn't.
+abbrev pub movedIn : Head → Bool
+movedIn (Free q) = false
+movedIn (Held q j r v) = v
+
+-- The payload that keeps an outcome: the response in bits 0 to 15, and bit 16 if the state moved.
+abbrev pub payloadOf : ℕ → Bool → ℕ
+payloadOf response moved = response + 65536 * bit moved
 
 -- The operation or the response that a payload names.
 abbrev pub named : ℕ → ℕ
 named payload = payload % 65536
+
+-- Whether a payload says that the state moved. Its higher bits are ignored.
+abbrev pub movedBy : ℕ → Bool
+movedBy payload = eqb (payload / 65536 % 2) 1
 
 -- The head with its state alone.
 unfoldable pub clearedWord : ℕ → ℕ
@@ -43,15 +57,16 @@ clearedWord h = headWord (Free (stateIn (headOf h))) 0
 -- The head after an operation of task j, by the table's entry.
 unfoldable pub appliedWord : List ℕ → Shape → (h j o : ℕ) → ℕ
 appliedWord file shape h j o =
-    let entry = entryOf file shape (stateIn (headOf h)) o in
-    headWord (Held (entry .next) j (entry .response)) 0
+    let q = stateIn (headOf h) in
+    let entry = entryOf file shape q o in
+    headWord (Held (entry .next) j (entry .response) (moves file shape q o)) 0
 
--- The announcement of an operation; the response in a head, handed over.
+-- The announcement of an operation; the outcome in a head, handed over.
 unfoldable pub operationWord : ℕ → ℕ
 operationWord o = announcementWord (content.Operation o) 0
 
 unfoldable pub responseWord : ℕ → ℕ
-responseWord h = announcementWord (content.Response (responseIn (headOf h))) 0
+responseWord h = announcementWord (content.Response (responseIn (headOf h)) (movedIn (headOf h))) 0
 
 -- ---- The access of the next step of task i, which helps task p first. It follows from the table, the numbers and the record.
 
@@ -138,12 +153,12 @@ madeIn Stored = false
 madeIn Swapped = true
 madeIn Unswapped = false
 
--- Another phase that keeps nothing; a response; a head; a head and an announcement.
+-- Another phase that keeps nothing; a payload; a head; a head and an announcement.
 abbrev pub bare : Phase → Next
 bare f = Go f 0 0 0
 
-abbrev pub withResponse : Phase → ℕ → Next
-withResponse f v = Go f v 0 0
+abbrev pub withPayload : Phase → ℕ → Next
+withPayload f v = Go f v 0 0
 
 abbrev pub withHead : Phase → ℕ → Next
 withHead f h = Go f 0 h 0
@@ -155,47 +170,53 @@ withBoth f h a = Go f 0 h a
 abbrev pub failedLink : Next
 failedLink = bare Poll
 
+-- The exit, with the own outcome.
+abbrev pub toExit : ℕ → Bool → Next
+toExit response moved = withPayload LoadExit (payloadOf response moved)
+
 abbrev pub afterPoll : Announcement → Next
 afterPoll content.Empty = bare LoadHead
 afterPoll (content.Operation o) = bare LoadHead
-afterPoll (content.Response r) = withResponse LoadExit r
+afterPoll (content.Response r v) = toExit r v
 
 abbrev pub afterLink : ℕ → Head → Next
 afterLink h (Free q) = withHead LoadPriority h
-afterLink h (Held q j r) = withHead (LoadHelped j) h
+afterLink h (Held q j r v) = withHead (LoadHelped j) h
 
 abbrev pub afterPriority : (h p : ℕ) → Announcement → Next
 afterPriority h p content.Empty = withHead LoadOwn h
 afterPriority h p (content.Operation o) = Go (Apply p) o h 0
-afterPriority h p (content.Response r) = withHead LoadOwn h
+afterPriority h p (content.Response r v) = withHead LoadOwn h
 
 abbrev pub afterOwn : (h i : ℕ) → Announcement → Next
 afterOwn h i content.Empty = bare Poll
 afterOwn h i (content.Operation o) = Go (Apply i) o h 0
-afterOwn h i (content.Response r) = withResponse LoadExit r
+afterOwn h i (content.Response r v) = toExit r v
 
 -- A helper goes on only with a cell that holds an operation.
 abbrev pub afterLinkHelped : (h j a : ℕ) → Announcement → Next
 afterLinkHelped h j a content.Empty = withBoth (Release j) h a
 afterLinkHelped h j a (content.Operation o) = withBoth (Validate j) h a
-afterLinkHelped h j a (content.Response r) = withBoth (Release j) h a
+afterLinkHelped h j a (content.Response r v) = withBoth (Release j) h a
 
 -- Whether task i holds the head.
 abbrev pub holderIs : ℕ → Head → Bool
 holderIs i (Free q) = false
-holderIs i (Held q j r) = eqb j i
+holderIs i (Held q j r v) = eqb j i
 
--- With the response v, by the own mark in the head h and by whether the task holds it.
+-- With the payload v, by the own mark in the head h and by whether the task holds it.
 abbrev pub afterExit : (v h : ℕ) → (marked holder : Bool) → Next
 afterExit v h true true = Go ClearExit v h 0
 afterExit v h true false = Go ReleaseExit v h 0
 afterExit v h false true = Go LinkExit v h 0
-afterExit v h false false = withResponse Retract v
+afterExit v h false false = withPayload Retract v
 
 -- What the step of task i leads to, which helps task p first.
 unfoldable pub nextOf : List ℕ → Shape → (i p : ℕ) → Task → Phase → Found → Next
 nextOf file shape i p t Idle g = bare Idle
-nextOf file shape i p t ReadOnly g = End (entryOf file shape (stateIn (headOf (wordIn g))) (t .operation) .response)
+nextOf file shape i p t ReadOnly g =
+    let q = stateIn (headOf (wordIn g)) in
+    End (entryOf file shape q (t .operation) .response) (moves file shape q (t .operation))
 nextOf file shape i p t Announce g = bare Poll
 nextOf file shape i p t Poll g = afterPoll (announcementOf (wordIn g))
 nextOf file shape i p t LoadHead g = withHead LinkHead (wordIn g)
@@ -203,10 +224,10 @@ nextOf file shape i p t LinkHead g = cond (madeIn g) (afterLink (addMark i (t .h
 nextOf file shape i p t LoadPriority g = afterPriority (t .head) p (announcementOf (wordIn g))
 nextOf file shape i p t LoadOwn g = afterOwn (t .head) i (announcementOf (wordIn g))
 nextOf file shape i p t LoadExit g = afterExit (t .payload) (wordIn g) (hasMark i (wordIn g)) (holderIs i (headOf (wordIn g)))
-nextOf file shape i p t LinkExit g = cond (madeIn g) (Go ClearExit (t .payload) (addMark i (t .head)) 0) (withResponse LoadExit (t .payload))
-nextOf file shape i p t ClearExit g = cond (madeIn g) (withResponse Retract (t .payload)) (withResponse LoadExit (t .payload))
-nextOf file shape i p t ReleaseExit g = cond (madeIn g) (withResponse Retract (t .payload)) (withResponse LoadExit (t .payload))
-nextOf file shape i p t Retract g = End (named (t .payload))
+nextOf file shape i p t LinkExit g = cond (madeIn g) (Go ClearExit (t .payload) (addMark i (t .head)) 0) (withPayload LoadExit (t .payload))
+nextOf file shape i p t ClearExit g = cond (madeIn g) (withPayload Retract (t .payload)) (withPayload LoadExit (t .payload))
+nextOf file shape i p t ReleaseExit g = cond (madeIn g) (withPayload Retract (t .payload)) (withPayload LoadExit (t .payload))
+nextOf file shape i p t Retract g = End (named (t .payload)) (movedBy (t .payload))
 nextOf file shape i p t ClearHead g = cond (madeIn g) (bare Poll) (withHead ReloadClear (t .head))
 nextOf file shape i p t ReloadClear g = cond (hasMark i (wordIn g)) (withHead ClearHead (wordIn g)) (bare Poll)
 nextOf file shape i p t (Apply j) g = cond (madeIn g) Turn (Go (ReloadApply j) (t .payload) (t .head) 0)

@@ -36,8 +36,9 @@ pub enum Next {
     },
     // The loop's begin, with the priority moved on by one task.
     Turn,
-    // The end, with the response.
+    // The end, with the response and whether the state moved.
     End {
         response: u16,
+        moved: bool,
     },
 }

@@ -14,8 +14,8 @@ use table::Shape;
 ghost use mathlib.Core.Path.{_≡_};
 ghost use mathlib.Core.Bool.{cond};
 ghost use Rattle.cells.specs.Layout.{headOf, announcementOf, addMark, hasMark};
-ghost use Rattle.table.specs.Entries.{entryOf};
-ghost use Rattle.transition.specs.Transition.{stateIn, holderIs, wordIn, madeIn, bare, withResponse, withHead, withBoth, failedLink, afterPoll, afterLink, afterPriority, afterOwn, afterLinkHelped, afterExit, nextOf};
+ghost use Rattle.table.specs.Entries.{entryOf, moves};
+ghost use Rattle.transition.specs.Transition.{stateIn, named, movedBy, holderIs, wordIn, madeIn, bare, withPayload, toExit, withHead, withBoth, failedLink, afterPoll, afterLink, afterPriority, afterOwn, afterLinkHelped, afterExit, nextOf};
 
 // What an access told: the word that was read, 0 if none was, and whether the swap was made.
 struct Told {
@@ -62,18 +62,11 @@ fn to(phase: Phase) -> Next
     go(phase, 0, 0, 0)
 }
 
-// The exit, with the own response.
-fn to_exit(response: u16) -> Next
-    ensures { λ r. ⌜ r ≡ withResponse Phase.LoadExit response ⌝ }
+// The exit, with the own outcome.
+fn to_exit(response: u16, moved: bool) -> Next
+    ensures { λ r. ⌜ r ≡ toExit response moved ⌝ }
 {
-    go(Phase::LoadExit, response as u32, 0, 0)
-}
-
-// The end, with a response.
-fn end(response: u16) -> Next
-    ensures { λ r. ⌜ r ≡ Next.End response ⌝ }
-{
-    Next::End { response }
+    go(Phase::LoadExit, words::payload_of(response, moved), 0, 0)
 }
 
 // By the own announcement: a response leads to the exit.
@@ -84,7 +77,7 @@ fn after_poll(word: u64) -> Next
     match found {
         Announcement::Empty => to(Phase::LoadHead),
         Announcement::Operation(_) => to(Phase::LoadHead),
-        Announcement::Response(response) => to_exit(response),
+        Announcement::Response(response, moved) => to_exit(response, moved),
     }
 }
 
@@ -98,6 +91,7 @@ fn after_link(word: u64, found: Head) -> Next
             state: _,
             task,
             response: _,
+            moved: _,
         } => go(Phase::LoadHelped(task), 0, word, 0),
     }
 }
@@ -132,7 +126,7 @@ fn after_priority(priority: u8, own: Task, word: u64) -> Next
         Announcement::Operation(operation) => {
             go(Phase::Apply(priority), operation as u32, own.head, 0)
         }
-        Announcement::Response(_) => go(Phase::LoadOwn, 0, own.head, 0),
+        Announcement::Response(_, _) => go(Phase::LoadOwn, 0, own.head, 0),
     }
 }
 
@@ -146,7 +140,7 @@ fn after_own(task: u8, own: Task, word: u64) -> Next
         Announcement::Operation(operation) => {
             go(Phase::Apply(task), operation as u32, own.head, 0)
         }
-        Announcement::Response(response) => to_exit(response),
+        Announcement::Response(handed, moved) => to_exit(handed, moved),
     }
 }
 
@@ -169,7 +163,7 @@ fn after_load_exit(task: u8, own: Task, word: u64) -> Next
 
 // The exit links a head that the task holds, to clear it.
 fn after_link_exit(task: u8, own: Task, made: bool) -> Next
-    ensures { λ r. ⌜ r ≡ cond made (Next.Go Phase.ClearExit (own .payload) (addMark task (own .head)) 0) (withResponse Phase.LoadExit (own .payload)) ⌝ }
+    ensures { λ r. ⌜ r ≡ cond made (Next.Go Phase.ClearExit (own .payload) (addMark task (own .head)) 0) (withPayload Phase.LoadExit (own .payload)) ⌝ }
 {
     if made {
         return go(
@@ -184,7 +178,7 @@ fn after_link_exit(task: u8, own: Task, made: bool) -> Next
 
 // After the exit's last swap on the head.
 fn after_leave(own: Task, made: bool) -> Next
-    ensures { λ r. ⌜ r ≡ cond made (withResponse Phase.Retract (own .payload)) (withResponse Phase.LoadExit (own .payload)) ⌝ }
+    ensures { λ r. ⌜ r ≡ cond made (withPayload Phase.Retract (own .payload)) (withPayload Phase.LoadExit (own .payload)) ⌝ }
 {
     if made {
         return go(Phase::Retract, own.payload, 0, 0);
@@ -276,15 +270,26 @@ fn after_reload_helped(task: u8, own: Task, again: Phase, word: u64) -> Next
     go(Phase::ClearHead, 0, own.head, 0)
 }
 
-// A reading operation ends with the response of the state that was read.
+// A reading operation ends with the outcome of the entry of the state that was read.
 fn read_end(file: &[u8], shape: Shape, own: Task, word: u64) -> Next
-    ensures { λ r. ⌜ r ≡ Next.End (entryOf (now (file .entry)) shape (stateIn (headOf word)) (own .operation) .response) ⌝ }
+    ensures { λ r. ⌜ r ≡ Next.End (entryOf (now (file .entry)) shape (stateIn (headOf word)) (own .operation) .response) (moves (now (file .entry)) shape (stateIn (headOf word)) (own .operation)) ⌝ }
 {
     let state = words::state_in(head::read_head(word));
     let entry = table::read_entry(file, shape, state, own.operation);
+    let moved = table::moves_state(file, shape, state, own.operation);
     Next::End {
         response: entry.response,
+        moved,
     }
+}
+
+// A changing operation ends with the outcome that its payload keeps.
+fn kept_end(payload: u32) -> Next
+    ensures { λ r. ⌜ r ≡ Next.End (named payload) (movedBy payload) ⌝ }
+{
+    let response = words::named_by(payload);
+    let moved = words::moved_by(payload);
+    Next::End { response, moved }
 }
 
 // What the step of a task leads to. The priority is the number of the task that it helps first.
@@ -313,7 +318,7 @@ pub fn next(
         Phase::LinkExit => after_link_exit(task, own, told.made),
         Phase::ClearExit => after_leave(own, told.made),
         Phase::ReleaseExit => after_leave(own, told.made),
-        Phase::Retract => end(words::named_by(own.payload)),
+        Phase::Retract => kept_end(own.payload),
         Phase::ClearHead => after_clear(own, told.made),
         Phase::ReloadClear => after_reload(task, Phase::ClearHead, 0, told.word),
         Phase::Apply(j) => after_apply(own, j, told.made),

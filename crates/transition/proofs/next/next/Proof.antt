@@ -82,11 +82,8 @@ after-leave-requires-2 c κs = search needs
 enum-told-13 : tie.Need-enum-told-13
 enum-told-13 c = search needs
 
-named-by-requires : tie.Need-named-by-requires
-named-by-requires c κs = search needs
-
-end-requires : tie.Need-end-requires
-end-requires c κs = search needs
+kept-end-requires : tie.Need-kept-end-requires
+kept-end-requires c κs = search needs
 
 enum-told-14 : tie.Need-enum-told-14
 enum-told-14 c = search needs
@@ -204,7 +201,7 @@ returns-12 c = simp (c .after-leave2 .ensures, c .before .enum-told12 .given .1,
 
 returns-13 : tie.Need-returns-13
 unfolding nextOf
-returns-13 c = simp (c .end .ensures, c .before .named-by .ensures, c .before .before .enum-told13 .given .1)
+returns-13 c = simp (c .kept-end .ensures, c .before .enum-told13 .given .1)
 
 returns-14 : tie.Need-returns-14
 unfolding nextOf
@@ -280,8 +277,7 @@ next-spec =
     enum-told-12
     after-leave-requires-2
     enum-told-13
-    named-by-requires
-    end-requires
+    kept-end-requires
     enum-told-14
     after-clear-requires
     enum-told-15
