@@ -35,7 +35,7 @@ module _ (n : ℕ) (m : Memory) where
   cells-length = rw (tabulate-length n (λ j. encodeAnnouncement (m .announcement j))) (sym (add-one n))
 
   module _ (j : ℕ) (below : j < n) where
-    cell-at : getD (encodeCells n m) (j + 1) 0 ≡ encodeAnnouncement (m .announcement j)
+    pub cell-at : getD (encodeCells n m) (j + 1) 0 ≡ encodeAnnouncement (m .announcement j)
     cell-at = rw (add-one j) (tabulate-at n (λ j. encodeAnnouncement (m .announcement j)) 0 j below)
 
     cell-set : (a : Cell Content) → set (encodeCells n m) (j + 1) (encodeAnnouncement a) ≡ encodeCells n (record { head = m .head; announcement = update (m .announcement) j a })

@@ -37,7 +37,7 @@ begin-cause (begin.Refused c) r = (c, refl)
 
 step-cause : (a : declared.StepAnswer) → IsRefused (Says (stepSaid a)) → (c : Refusal) × (a ≡ step.Refused c)
 step-cause step.Running r = absurd r
-step-cause (step.Ended v k) r = absurd r
+step-cause (step.Ended x v k) r = absurd r
 step-cause (step.Refused c) r = (c, refl)
 
 module _ (p : Places) (m : Memory) where

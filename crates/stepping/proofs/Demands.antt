@@ -21,9 +21,7 @@ use Rattle.machine.specs.Demand.{Shown, Demand}
 use Rattle.machine.specs.Ending.{EndsChanging}
 use Rattle.machine.specs.Invariant.{content}
 use Rattle.machine.specs.Points.{nextAccess}
-use Rattle.machine.specs.Potential.{bound}
 use Rattle.machine.proofs.Steps.Calls.{Serving, begins, begin-task, begin-operation, begin-pending, moves, step-task, step-idle, serving}
-use Rattle.machine.proofs.Whole.Demands.{demand}
 use Rattle.machine.proofs.Points.Emptied.{emptyings}
 use Rattle.machine.proofs.Invariant.Ranges.{formed-run}
 use Rattle.machine.proofs.Points.OwnSteps.{own-record}
@@ -35,7 +33,7 @@ use Rattle.stepping.specs.Step.{cellInForm}
 use Rattle.stepping.specs.Access.{accessOf}
 use Rattle.stepping.specs.Runs.{Store, Outcome, serveOf, runOf, historyOf}
 use Rattle.stepping.specs.Opening.{Opening, objectIn, shown}
-use Rattle.stepping.specs.Statement.{DemandsWithin, recordAfter, EmptyAt, Emptied}
+use Rattle.stepping.specs.Statement.{recordAfter, EmptyAt, Emptied}
 use Rattle.stepping.specs.Encoding.{encodeCells, encodeConfig}
 use Rattle.stepping.proofs.Accesses.{encoded-empty, encoded-in-form}
 use Rattle.stepping.proofs.Simulation.{InRange, serve-simulates, run-simulates, history-simulates, access-simulates}
@@ -68,13 +66,13 @@ refuses (step-idle h d) number e = within e (omega arith) (omega arith)
 
 -- After an opening.
 module _ {file : List ℕ} {n q : ℕ} {s : Store} (o : Opening file n q s) where
-  abbrev machineRun : List Call → Config
+  abbrev pub machineRun : List Call → Config
   machineRun xs = run (objectIn o) n xs (start q)
 
   pub opens : Opens (objectIn o) q
   opens = record { lawful = object-lawful (o .table); good = o .good }
 
-  in-range : (xs : List Call) → InRange (objectIn o) n (run (objectIn o) n xs (start q))
+  pub in-range : (xs : List Call) → InRange (objectIn o) n (run (objectIn o) n xs (start q))
   in-range = reached (objectIn o) n q (o .some) opens
 
   first-store : s ≡ encodeConfig n (start q)
@@ -111,21 +109,22 @@ module _ {file : List ℕ} {n q : ℕ} {s : Store} (o : Opening file n q s) wher
     announcement-opened t below = rw run-opened (encoded-empty file (o .shape) (o .table) n (o .few) (machineRun xs .memory) (in-range xs .formed .memory) t below)
 
   -- What the machine shows, with its cells as words.
-  abbrev encodedShows : Shown (List ℕ)
+  abbrev pub encodedShows : Shown (List ℕ)
   encodedShows = record {
     answer = λ xs x. serve (objectIn o) n x (machineRun xs) .answer;
     history = λ xs. history (objectIn o) n xs (start q);
     cells = λ xs. encodeCells n (machineRun xs .memory);
   }
 
-  shown-same : shown o ≡ encodedShows
+  pub shown-same : shown o ≡ encodedShows
   shown-same k = record {
     answer = λ xs x. answer-opened xs x k;
     history = λ xs. history-opened xs k;
     cells = λ xs. run-opened xs k .cells;
   }
 
-  encoded-demands : (c : ℕ) → Demand (objectIn o) n q c image (machineShows (objectIn o) n q) → Demand (objectIn o) n q c (words.image n) encodedShows
+  -- Demands 2 and 3, with any bound that the proved one doesn't pass.
+  unfoldable pub encoded-demands : (c : ℕ) → Demand (objectIn o) n q c image (machineShows (objectIn o) n q) → Demand (objectIn o) n q c (words.image n) encodedShows
   encoded-demands c d = record {
     begins = d .begins;
     told = d .told;
@@ -139,10 +138,6 @@ module _ {file : List ℕ} {n q : ℕ} {s : Store} (o : Opening file n q s) wher
     below = d .below;
     count = d .count;
   }
-
-  -- Demands 2 and 3, with any bound that the proved one doesn't pass.
-  pub demands : (c : ℕ) → bound n ≤ c → DemandsWithin c o
-  demands c h = rw shown-same (encoded-demands c (demand (objectIn o) n q opens c h))
 
   -- The step that empties an announcement ends its operation, and no other does.
   pub emptied : Emptied o
@@ -159,7 +154,7 @@ module _ {file : List ℕ} {n q : ℕ} {s : Store} (o : Opening file n q s) wher
       moved e = record {
         operation = e .operation;
         steps = e .steps;
-        response = e .response;
+        outcome = e .outcome;
         count = e .count;
         step = e .step;
         pends = ap (λ es. pending es t) (history-opened xs) ∙ e .pends;
@@ -171,7 +166,7 @@ module _ {file : List ℕ} {n q : ℕ} {s : Store} (o : Opening file n q s) wher
       back e = record {
         operation = e .operation;
         steps = e .steps;
-        response = e .response;
+        outcome = e .outcome;
         count = e .count;
         step = e .step;
         pends = ap (λ es. pending es t) (sym (history-opened xs)) ∙ e .pends;

@@ -12,6 +12,7 @@ pub mod Advances
 pub mod Simulation
 pub mod Starts
 pub mod Demands
+pub mod Outcomes
 pub mod Between
 pub mod Theorem
 pub mod Cases

@@ -86,7 +86,7 @@ module _ (t : Task) where
 accepts : (t : Task) (x : Next) (reason : Refusal) → answerOf t x ≡ step.Refused reason → ⊥
 accepts t (Go f v h a) reason e = never cc
 accepts t Turn reason e = never cc
-accepts t (End r) reason e = never cc
+accepts t (End r v) reason e = never cc
 
 module _ (file cells : List ℕ) (n i : ℕ) (t : Task) where
   record StepKept (out : TaskOutcome) : Type 0 where

@@ -8,7 +8,9 @@ use Rattle.cells.specs.Image.{image}
 use Rattle.cells.specs.Layout.{announcementWord}
 use Rattle.cells.proofs.Images.{image-injective}
 use Rattle.machine.specs.Run.{history, start}
-use Rattle.machine.specs.Calls.{Step}
+use Rattle.table.specs.Entries.{entryOf}
+use Rattle.machine.specs.Calls.{Step, Ended}
+use Rattle.machine.specs.Keeping.{bookOf}
 use Rattle.machine.specs.History.{Pends, pending}
 use Rattle.machine.proofs.Points.OwnSteps.{next-step}
 use Rattle.machine.proofs.Whole.WaitFree.{bound-ceiling}
@@ -20,9 +22,10 @@ use Rattle.stepping.specs.Call.{StartOutcome}
 use Rattle.stepping.specs.Runs.{Store}
 use Rattle.stepping.specs.Opening.{Opening, objectIn}
 use Rattle.stepping.specs.Lent.{Places}
-use Rattle.stepping.specs.Statement.{MakesAccess, FollowsResult, Local, OneCell, BeginByRecord, StepByRecord, StartUnchanged, BeginUnchanged, StepUnchanged, BeginRecordUnchanged, StepRecordUnchanged, Startable, StartOpens, Demands, SharperDemands, Independent, CellsInForm, Refusals, Endings, Emptied, Between, OpensNext}
+use Rattle.stepping.specs.Statement.{MakesAccess, FollowsResult, Local, OneCell, BeginByRecord, StepByRecord, StartUnchanged, BeginUnchanged, StepUnchanged, BeginRecordUnchanged, StepRecordUnchanged, Startable, StartOpens, Demands, SharperDemands, Independent, Answered, Carried, CellsInForm, Refusals, Endings, Emptied, Between, OpensNext}
 use Rattle.stepping.proofs.Between.{between, opens-next}
-use Rattle.stepping.proofs.Demands.{opens, formed-opened, history-opened, answer-opened, access-opened, refused-opened, demands, emptied}
+use Rattle.stepping.proofs.Demands.{opens, formed-opened, history-opened, answer-opened, access-opened, refused-opened, emptied}
+use Rattle.stepping.proofs.Outcomes.{answered, met, unmoved}
 use Rattle.stepping.proofs.Local.{step-local, step-elsewhere}
 use Rattle.stepping.proofs.AccessRule.{makes-access, follows-result}
 use Rattle.stepping.proofs.ByRecord.{begin-by-record, step-by-record}
@@ -84,10 +87,17 @@ start-opens = accepted-start
 
 module _ {file : List ℕ} {n q : ℕ} {s : Store} (o : Opening file n q s) where
   pub demands-met : Demands o
-  demands-met = demands o (1000 * (n * n * n)) (bound-ceiling n (o .some))
+  demands-met = met o (1000 * (n * n * n)) (bound-ceiling n (o .some)) .0
 
   pub sharper-demands-met : SharperDemands o
-  sharper-demands-met = demands o (n * n * (16 * n + 47) + 98 * n + 32) (omega arith)
+  sharper-demands-met = met o (n * n * (16 * n + 47) + 98 * n + 32) (omega arith) .0
+
+  pub answered-known : (d : Demands o) → Answered o d
+  answered-known = answered o
+
+  pub carried-known : Carried o demands-met
+  unfolding demands-met
+  carried-known = met o (1000 * (n * n * n)) (bound-ceiling n (o .some)) .1
 
   pub cells-in-form : CellsInForm o
   cells-in-form = formed-opened o
@@ -107,7 +117,10 @@ module _ {file : List ℕ} {n q : ℕ} {s : Store} (o : Opening file n q s) wher
       let same = answer-opened o xs (Step t) in
       let access = access-opened o xs t x k p in
       record {
-        reading = λ reads. (access ∙ ap encodeAccess (z .reading reads .0), (_, same ∙ z .reading reads .1));
+        reading = λ reads. (
+          access ∙ ap encodeAccess (z .reading reads .0),
+          (_, same ∙ z .reading reads .1 ∙ ap (λ v. Ended (record { response = entryOf file (o .shape) (bookOf b n q xs .state) x .response; moved = v }) 1) (unmoved o xs x reads)),
+        );
         ending = λ changes r c answered. access ∙ ap encodeAccess (z .ending changes r c (sym same ∙ answered));
       }
 

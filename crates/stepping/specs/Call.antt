@@ -53,7 +53,7 @@ beginSaid (begin.Refused c) = paper.Refused (numberOf c)
 
 abbrev pub stepSaid : StepAnswer → paper.Answer
 stepSaid step.Running = paper.Running
-stepSaid (step.Ended r k) = paper.Ended r k
+stepSaid (step.Ended r v k) = paper.Ended (record { response = r; moved = v }) k
 stepSaid (step.Refused c) = paper.Refused (numberOf c)
 
 -- ---- Tests that calls share

@@ -1,24 +1,30 @@
 -- What is proved of start, begin and step, as types over the definitions of the calls. `proofs/Theorem.antt` has a proof of each.
 use mathlib.Core.Path.{_≡_}
-use mathlib.Core.Bool.{true, false}
+use mathlib.Core.Bool.{Bool, true, false}
 use mathlib.Core.Logic.{_↔_, _≢_}
 use mathlib.Core.List.{List}
 use Prim.Native.Nat.{ℕ, _+_, _*_, _<_, _≤_}
-use lib.ListN.{length, getD}
+use lib.ListN.{length, getD, take}
+use Rattle.laws.specs.Places.{At}
 use Rattle.refusal.specs.declared.Refusal.{Refusal}
 use Rattle.cells.specs.Image.{image}
-use Rattle.cells.specs.Layout.{kindIn}
+use Rattle.cells.specs.Layout.{kindIn, headOf, announcementOf}
+use Rattle.cells.specs.declared.head.Head.the-variants as head
+use Rattle.cells.specs.declared.announcement.Announcement.the-variants as content
 use Rattle.table.specs.declared.Shape.{Shape}
 use Rattle.table.specs.declared.Checked.the-variants as table
 use Rattle.table.specs.File.{Bytes, shapeOf}
 use Rattle.table.specs.Check.{checkOf}
-use Rattle.table.specs.Entries.{changing}
+use Rattle.table.specs.Entries.{entryOf, moves, changing}
+use Rattle.machine.specs.Outcome.{Outcome}
 use Rattle.machine.specs.Calls.{Call, Step, Ended, Refused, Event}
-use Rattle.machine.specs.History.{Pends, pending, Rest}
-use Rattle.machine.specs.Demand.{Demand}
+use Rattle.machine.specs.Book.{Operation, Book}
+use Rattle.machine.specs.History.{Pends, pending, Rest, Begins, Ends, Open, reached}
+use Rattle.machine.specs.Demand.{Shown, Demand}
 use Rattle.machine.specs.Ending.{Emptyings}
 use Rattle.records.specs.declared.record.Task.{Task}
 use Rattle.transition.specs.declared.access.Access.the-variants.{Read, Write}
+use Rattle.transition.specs.Object.{objectOf}
 use Rattle.stepping.specs.declared.answer.StepAnswer.{StepAnswer}
 use Rattle.stepping.specs.declared.answer.StepAnswer.the-variants as step
 use Rattle.stepping.specs.declared.answer.BeginAnswer.the-variants as begin
@@ -142,6 +148,37 @@ Independent o o′ d d′ =
     (xs xs′ : List Call) → Rest (objectIn o) (shown o .history xs) → Rest (objectIn o′) (shown o′ .history xs′)
     → (shown o .cells xs ≡ shown o′ .cells xs′) ↔ (d .book xs .state ≡ d′ .book xs′ .state)
 
+-- ---- What an operation answers, and what the cells carry of it
+
+-- The operation x stands in an order that begins in state q, and response and moved are those of the entry that it used: the one of
+-- the state that replay of the operations before it reaches, and of x's operation.
+pub record EntryUsed (file : List ℕ) (shape : Shape) (q : ℕ) (order : List Operation) (x : Operation) (response : ℕ) (moved : Bool) : Type 0 where
+  pub place : ℕ
+  pub stands : At order place x
+  pub response-used : response ≡ entryOf file shape (reached (objectOf file shape) q (take place order)) (x .operation) .response
+  pub moved-used : moved ≡ moves file shape (reached (objectOf file shape) q (take place order)) (x .operation)
+
+-- An operation that ended answered response and moved of the entry that it used.
+abbrev pub Answered : {file : List ℕ} {n q : ℕ} {s : Store} (o : Opening file n q s) → Demands o → Type 0
+Answered {file} {q = q} o d =
+    (xs : List Call) (x : Operation) (p r : ℕ) (moved : Bool) → Begins (shown o .history xs) x
+    → Ends (shown o .history xs) x p (record { response = r; moved = moved }) → EntryUsed file (o .shape) q (d .book xs .order) x r moved
+
+-- The cells carry response and moved for task j: cell 0 with j as its holder, or cell j + 1 with kind 2.
+pub data CarriedFor (cells : List ℕ) (j r : ℕ) (moved : Bool) : Type 0 where
+  in-head : {p : ℕ} → headOf (getD cells 0 0) ≡ head.Held p j r moved → CarriedFor cells j r moved
+  in-announcement : announcementOf (getD cells (j + 1) 0) ≡ content.Response r moved → CarriedFor cells j r moved
+
+-- Over what a run shows and the book kept along it: what the cells carry for a task, at any point, is response and moved of the entry
+-- that its open operation used; so that operation stands in the order.
+abbrev pub CarriedAlong : (file : List ℕ) (shape : Shape) (q : ℕ) → Shown (List ℕ) → (List Call → Book) → Type 0
+CarriedAlong file shape q run book =
+    (xs : List Call) (j r : ℕ) (moved : Bool) → CarriedFor (run .cells xs) j r moved
+    → (x : Operation) × (x .task ≡ j) × Open (run .history xs) x × EntryUsed file shape q (book xs .order) x r moved
+
+abbrev pub Carried : {file : List ℕ} {n q : ℕ} {s : Store} (o : Opening file n q s) → Demands o → Type 0
+Carried {file} {q = q} o d = CarriedAlong file (o .shape) q (shown o) (d .book)
+
 -- ---- Every point of a run
 
 -- Every cell is in form: cell 0 as the head, every other as an announcement.
@@ -160,11 +197,12 @@ recordAfter {file} {s = s} o xs t = taskAt (runOf file xs s .row) t
 
 -- The last step of an operation x that task t has pending after the calls xs.
 pub record LastStep {file : List ℕ} {n q : ℕ} {s : Store} (o : Opening file n q s) (xs : List Call) (t x : ℕ) : Type 0 where
-  -- A reading operation ends in its first step, and that step is a read of the head.
+  -- A reading operation ends in its first step, that step is a read of the head, and it says that the state has not moved.
   pub reading : changing file (o .shape) x ≡ false
-      → (accessOf file n t (recordAfter o xs t) ≡ Read 0) × ((r : ℕ) × (shown o .answer xs (Step t) ≡ Ended r 1))
+      → (accessOf file n t (recordAfter o xs t) ≡ Read 0)
+      × ((r : ℕ) × (shown o .answer xs (Step t) ≡ Ended (record { response = r; moved = false }) 1))
   -- A changing one ends with a write of 0 to its announcement.
-  pub ending : changing file (o .shape) x ≡ true → (r k : ℕ) → shown o .answer xs (Step t) ≡ Ended r k
+  pub ending : changing file (o .shape) x ≡ true → (r : Outcome) (k : ℕ) → shown o .answer xs (Step t) ≡ Ended r k
       → accessOf file n t (recordAfter o xs t) ≡ Write (t + 1) 0
 
 abbrev pub Endings : {file : List ℕ} {n q : ℕ} {s : Store} → Opening file n q s → Type 0

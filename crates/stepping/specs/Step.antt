@@ -56,13 +56,13 @@ cellInForm shape n cell word =
 abbrev pub advanceOf : ℕ → Task → Next → Task
 advanceOf n t (Go f v h a) = record { head = h; announcement = a; payload = v; steps = t .steps + 1; operation = t .operation; priority = t .priority; phase = phaseNumber f }
 advanceOf n t Turn = record { head = 0; announcement = 0; payload = 0; steps = t .steps + 1; operation = t .operation; priority = (t .priority + 1) % n; phase = phaseNumber Poll }
-advanceOf n t (End r) = idleTask (t .priority)
+advanceOf n t (End r v) = idleTask (t .priority)
 
 -- What an accepted step answers; the count takes in this step.
 abbrev pub answerOf : Task → Next → StepAnswer
 answerOf t (Go f v h a) = Running
 answerOf t Turn = Running
-answerOf t (End r) = Ended r (t .steps + 1)
+answerOf t (End r v) = Ended r v (t .steps + 1)
 
 -- The cells, the record and the answer of one task's step.
 pub record TaskOutcome : Type 0 where

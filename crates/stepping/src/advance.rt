@@ -70,9 +70,13 @@ pub(crate) fn advance(tasks: usize, own: Task, next: Next) -> Step
             ),
             answer: StepAnswer::Running,
         },
-        Next::End { response } => Step {
+        Next::End { response, moved } => Step {
             task: record::idle_task(own.priority),
-            answer: StepAnswer::Ended { response, steps },
+            answer: StepAnswer::Ended {
+                response,
+                moved,
+                steps,
+            },
         },
     }
 }

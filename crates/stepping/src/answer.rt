@@ -25,10 +25,14 @@ pub struct Begin {
     pub answer: BeginAnswer,
 }
 
-// Running, ended with the response and the own steps since begin, or refused.
+// Running, ended with the response, whether the state moved and the own steps since begin, or refused.
 pub enum StepAnswer {
     Running,
-    Ended { response: u16, steps: u32 },
+    Ended {
+        response: u16,
+        moved: bool,
+        steps: u32,
+    },
     Refused(Refusal),
 }
 
