@@ -1,9 +1,11 @@
 -- A kernel reads from a word what the answer says.
-use mathlib.Core.Path.{_≡_, refl}
+use mathlib.Core.Path.{_≡_, refl, ap, _∙_}
+use mathlib.Core.Bool.{Bool, true, false}
 use mathlib.Core.Logic.{_⊎_, inl, inr}
 use mathlib.Core.List.{List}
 use Prim.Native.Nat.{ℕ, _/_, _%_, _<_, _≤_}
 use native.Mathlib.Omega.{arith}
+use Rattle.laws.specs.Bit.{bit}
 use Rattle.refusal.specs.Number.{numberOf}
 use Rattle.refusal.specs.declared.Refusal.{Refusal}
 use Rattle.refusal.specs.declared.Refusal.the-variants.{File, Dimensions, Length, NextState, Row, Cells, Task, Operation, Pending, Idle, Record, Cell, Line}
@@ -12,6 +14,7 @@ use Rattle.cells.specs.declared.ceiling.Ceiling.{Ceiling}
 use Rattle.cells.specs.declared.ceiling.Ceiling.the-variants as ceiling
 use Rattle.table.specs.declared.Shape.{Shape}
 use Rattle.table.specs.declared.Checked.the-variants as table
+use Rattle.machine.specs.Outcome.{Outcome}
 use Rattle.machine.specs.Calls as paper
 use Rattle.machine.specs.Calls.{Call}
 use Rattle.stepping.specs.Call.{startSaid}
@@ -20,13 +23,18 @@ use Rattle.stepping.specs.Opening.{Opening, shown}
 use Rattle.stepping.proofs.Theorem.{refusals-known}
 use Rattle.stepping.specs.declared.answer.StartAnswer.{StartAnswer}
 use Rattle.stepping.specs.declared.answer.StartAnswer.the-variants as start
-use Rattle.drive_object.specs.Word.{wordOf, refusalIn, endedIn, lowIn, highIn, valueAt, refusedWord, checkWord, startWord, answerWord, ceilingWord}
+use Rattle.drive_object.specs.Word.{wordOf, endedFlags, refusalIn, flagsIn, endedIn, movedIn, lowIn, highIn, valueAt, refusedWord, checkWord, startWord, answerWord, ceilingWord}
 
 -- The four parts of a word, each as wide as its bytes.
-pub parts-read : (c e l h : ℕ) → c < 256 → e < 256 → l < 65536
-    → (refusalIn (wordOf c e l h) ≡ c) × (endedIn (wordOf c e l h) ≡ e) × (lowIn (wordOf c e l h) ≡ l) × (highIn (wordOf c e l h) ≡ h)
-parts-read c e l h small-c small-e small-l =
-    (omega (arith, small-c), omega (arith, small-c, small-e), omega (arith, small-c, small-e, small-l), omega (arith, small-c, small-e, small-l))
+pub parts-read : (c f l h : ℕ) → c < 256 → f < 256 → l < 65536
+    → (refusalIn (wordOf c f l h) ≡ c) × (flagsIn (wordOf c f l h) ≡ f) × (lowIn (wordOf c f l h) ≡ l) × (highIn (wordOf c f l h) ≡ h)
+parts-read c f l h small-c small-f small-l =
+    (omega (arith, small-c), omega (arith, small-c, small-f), omega (arith, small-c, small-f, small-l), omega (arith, small-c, small-f, small-l))
+
+-- The flags of an operation that has ended, bit by bit: they are 1 or 3.
+pub flags-read : (moved : Bool) → (endedFlags moved % 2 ≡ 1) × (endedFlags moved / 2 % 2 ≡ bit moved) × (endedFlags moved < 4)
+flags-read true = (refl, refl, omega arith)
+flags-read false = (refl, refl, omega arith)
 
 number-fits : (c : Refusal) → numberOf c < 256
 number-fits File = omega arith
@@ -43,8 +51,8 @@ number-fits Record = omega arith
 number-fits Cell = omega arith
 number-fits Line = omega arith
 
--- A refused call shows the number of its cause, and is no operation that has ended.
-pub refused-read : (c : Refusal) → (refusalIn (refusedWord c) ≡ numberOf c) × (endedIn (refusedWord c) ≡ 0)
+-- A refused call shows the number of its cause, and no flag: it is no operation that has ended.
+pub refused-read : (c : Refusal) → (refusalIn (refusedWord c) ≡ numberOf c) × (flagsIn (refusedWord c) ≡ 0)
 refused-read c =
     let parts = parts-read (numberOf c) 0 0 0 (number-fits c) (omega arith) (omega arith) in
     (parts .0, parts .1)
@@ -69,17 +77,20 @@ pub check-read : (shape : Shape) → shape .states < 65536 → shape .operations
 check-read shape s m = (omega arith, omega (arith, s), omega (arith, s, m), omega (arith, s, m))
 
 -- The answers of begin and step: running and ended apart, and the number of a refusal.
-pub begun-read : (refusalIn (answerWord paper.Begun) ≡ 0) × (endedIn (answerWord paper.Begun) ≡ 0)
+pub begun-read : (refusalIn (answerWord paper.Begun) ≡ 0) × (flagsIn (answerWord paper.Begun) ≡ 0)
 begun-read = (refl, refl)
 
-pub running-read : (refusalIn (answerWord paper.Running) ≡ 0) × (endedIn (answerWord paper.Running) ≡ 0)
+pub running-read : (refusalIn (answerWord paper.Running) ≡ 0) × (flagsIn (answerWord paper.Running) ≡ 0)
 running-read = (refl, refl)
 
-pub ended-read : (r k : ℕ) → r < 65536 → let w = answerWord (paper.Ended r k) in
-    (refusalIn w ≡ 0) × (endedIn w ≡ 1) × (lowIn w ≡ r) × (highIn w ≡ k)
-ended-read r k h = parts-read 0 1 r k (omega arith) (omega arith) h
+pub ended-read : (v : Outcome) (k : ℕ) → v .response < 65536 → let w = answerWord (paper.Ended v k) in
+    (refusalIn w ≡ 0) × (flagsIn w ≡ endedFlags (v .moved)) × (endedIn w ≡ 1) × (movedIn w ≡ bit (v .moved)) × (lowIn w ≡ v .response) × (highIn w ≡ k)
+ended-read v k h =
+    let (ended, moved, few) = flags-read (v .moved) in
+    let (number, flags, low, high) = parts-read 0 (endedFlags (v .moved)) (v .response) k (omega arith) (omega (arith, few)) h in
+    (number, flags, ap (λ f. f % 2) flags ∙ ended, ap (λ f. f / 2 % 2) flags ∙ moved, low, high)
 
-pub answer-refused-read : (number : ℕ) → number < 256 → (refusalIn (answerWord (paper.Refused number)) ≡ number) × (endedIn (answerWord (paper.Refused number)) ≡ 0)
+pub answer-refused-read : (number : ℕ) → number < 256 → (refusalIn (answerWord (paper.Refused number)) ≡ number) × (flagsIn (answerWord (paper.Refused number)) ≡ 0)
 answer-refused-read number h =
     let parts = parts-read number 0 0 0 h (omega arith) (omega arith) in
     (parts .0, parts .1)
@@ -92,7 +103,7 @@ run-read o xs x = by (shown o .answer xs x) (refusals-known o xs x)
     by : (a : paper.Answer) → ((k : ℕ) → a ≡ paper.Refused k → (7 ≤ k) × (k ≤ 10)) → let k = refusalIn (answerWord a) in (k ≡ 0) ⊎ ((7 ≤ k) × (k ≤ 10))
     by paper.Begun h = inl refl
     by paper.Running h = inl refl
-    by (paper.Ended r k) h = inl (omega arith)
+    by (paper.Ended v k) h = inl (omega arith)
     by (paper.Refused k) h =
         let (low, high) = h k refl in
         let shows = answer-refused-read k (omega arith) .0 in

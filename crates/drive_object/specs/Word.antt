@@ -1,6 +1,8 @@
 -- The answers of the exported calls, each as one word of 64 bits: the number and the values that it says.
+use mathlib.Core.Bool.{Bool}
 use Prim.Native.Nat.{ℕ, _+_, _*_, _/_, _%_}
 use lib.ListN.{getD}
+use Rattle.laws.specs.Bit.{bit}
 use Rattle.refusal.specs.Number.{Said, refused}
 use Rattle.refusal.specs.declared.Refusal.{Refusal}
 use Rattle.cells.specs.Ceiling.{ceilingSaid}
@@ -13,17 +15,26 @@ use Rattle.stepping.specs.declared.answer.StartAnswer.{StartAnswer}
 use Rattle.stepping.specs.declared.answer.BeginAnswer.{BeginAnswer}
 use Rattle.stepping.specs.Call.{startSaid, beginSaid, stepSaid}
 
--- Byte 0 of a word is the number of the refusal, byte 1 says whether the operation has ended, bytes 2 and 3 are the low
--- number, bytes 4 to 7 the high one.
-abbrev pub wordOf : (refusal ended low high : ℕ) → ℕ
-wordOf c e l h = c + 256 * e + 65536 * l + 4294967296 * h
+-- Byte 0 of a word is the number of the refusal, byte 1 has flags, bytes 2 and 3 are the low number, bytes 4 to 7 the high one.
+abbrev pub wordOf : (refusal flags low high : ℕ) → ℕ
+wordOf c f l h = c + 256 * f + 65536 * l + 4294967296 * h
+
+-- The flags of an operation that has ended: bit 0, and bit 1 if it moved the state. All other answers have none.
+abbrev pub endedFlags : Bool → ℕ
+endedFlags moved = 1 + 2 * bit moved
 
 -- What a kernel reads from a word.
 abbrev pub refusalIn : ℕ → ℕ
 refusalIn w = w % 256
 
+abbrev pub flagsIn : ℕ → ℕ
+flagsIn w = w / 256 % 256
+
 abbrev pub endedIn : ℕ → ℕ
-endedIn w = w / 256 % 256
+endedIn w = flagsIn w % 2
+
+abbrev pub movedIn : ℕ → ℕ
+movedIn w = flagsIn w / 2 % 2
 
 abbrev pub lowIn : ℕ → ℕ
 lowIn w = w / 65536 % 65536
@@ -46,11 +57,12 @@ checkWord a = wordOf (checkSaid a .number) 0 (valueAt (checkSaid a) 0) (valueAt 
 abbrev pub startWord : StartAnswer → ℕ
 startWord a = wordOf (startSaid a .number) 0 0 0
 
--- An operation that has ended has its response as the low number and its own steps as the high one.
+-- An operation that has ended says so, and whether it moved the state, in the flags; it has its response as the low number and its
+-- own steps as the high one.
 abbrev pub answerWord : paper.Answer → ℕ
 answerWord paper.Begun = wordOf 0 0 0 0
 answerWord paper.Running = wordOf 0 0 0 0
-answerWord (paper.Ended response steps) = wordOf 0 1 response steps
+answerWord (paper.Ended outcome steps) = wordOf 0 (endedFlags (outcome .moved)) (outcome .response) steps
 answerWord (paper.Refused number) = wordOf number 0 0 0
 
 abbrev pub beginWord : BeginAnswer → ℕ

@@ -1,4 +1,5 @@
 // The calls for kernels in C and Rust: each answer is one word.
+use cells::bit;
 use cells::ceiling;
 use cells::ceiling::Ceiling;
 use records::record::Task;
@@ -12,13 +13,20 @@ ghost use Prim.Native.Nat.{_+_, _*_};
 ghost use Rattle.cells.specs.Ceiling.{ceilingOf};
 ghost use Rattle.table.specs.Check.{checkOf};
 ghost use Rattle.stepping.specs.Call.{startOf, beginTask, beginOf, stepTask, stepOf};
-ghost use Rattle.drive_object.specs.Word.{wordOf, refusedWord, checkWord, startWord, beginWord, stepWord, ceilingWord};
+ghost use Rattle.drive_object.specs.Word.{wordOf, endedFlags, refusedWord, checkWord, startWord, beginWord, stepWord, ceilingWord};
 
-// The word of a refusal's number, of whether the operation has ended, and of two numbers.
-fn word(cause: u8, ended: u8, low: u16, high: u32) -> u64
-    ensures { λ r. ⌜ r ≡ wordOf cause ended low high ⌝ }
+// The word of a refusal's number, of flags, and of two numbers.
+fn word(cause: u8, flags: u8, low: u16, high: u32) -> u64
+    ensures { λ r. ⌜ r ≡ wordOf cause flags low high ⌝ }
 {
-    cause as u64 + 0x100 * ended as u64 + 0x1_0000 * low as u64 + 0x1_0000_0000 * high as u64
+    cause as u64 + 0x100 * flags as u64 + 0x1_0000 * low as u64 + 0x1_0000_0000 * high as u64
+}
+
+// The flags of an operation that has ended: bit 0, and bit 1 if it moved the state.
+fn ended_flags(moved: bool) -> u8
+    ensures { λ r. ⌜ r ≡ endedFlags moved ⌝ }
+{
+    1 + 2 * bit::bit_of(moved)
 }
 
 // The word of a refusal.
@@ -73,7 +81,11 @@ fn step_word(answer: StepAnswer) -> u64
 {
     match answer {
         StepAnswer::Running => word(0, 0, 0, 0),
-        StepAnswer::Ended { response, steps } => word(0, 1, response, steps),
+        StepAnswer::Ended {
+            response,
+            moved,
+            steps,
+        } => word(0, ended_flags(moved), response, steps),
         StepAnswer::Refused(cause) => refused_word(cause),
     }
 }

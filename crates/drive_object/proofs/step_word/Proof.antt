@@ -12,6 +12,9 @@ word-requires c κs = search needs
 enum-known-answer : tie.Need-enum-known-answer
 enum-known-answer c = search needs
 
+ended-flags-requires : tie.Need-ended-flags-requires
+ended-flags-requires c κs = search needs
+
 word-requires-2 : tie.Need-word-requires-2
 word-requires-2 c κs = search needs
 
@@ -25,7 +28,7 @@ returns : tie.Need-returns
 returns c = search needs
 
 returns-2 : tie.Need-returns-2
-returns-2 c = simp (c .word2 .ensures, c .before .before .answer .given .1)
+returns-2 c = simp (c .word2 .ensures, c .before .ended-flags .ensures, c .before .before .before .answer .given .1)
 
 returns-3 : tie.Need-returns-3
 returns-3 c = simp (c .refused-word .ensures, c .before .before .answer2 .given .1)
@@ -37,6 +40,7 @@ step-word-spec =
     enum-told
     word-requires
     enum-known-answer
+    ended-flags-requires
     word-requires-2
     enum-known-answer-2
     refused-word-requires
