@@ -6,6 +6,7 @@ use Prim.Native.Nat.{ℕ, zero, suc, _+_, _/_, _%_}
 use lib.Dec.{ltb}
 use lib.ListN.{length, take}
 use Rattle.io.specs.Digits.{digits}
+use Rattle.laws.specs.Bit.{bit}
 use Rattle.refusal.specs.Number.{numberOf}
 use Rattle.cells.specs.Count.{markCount}
 use Rattle.bench_lines.specs.declared.text.Base.{Base}
@@ -49,11 +50,12 @@ lineOf letter fields = letter ∷ (fields ++ (newline ∷ []))
 abbrev pub numberLine : ℕ → List ℕ → List ℕ
 numberLine letter numbers = lineOf letter (partedIn Decimal numbers)
 
--- The line of a reply: `n` with tasks, states and operations, `r` with task and response, `x` with the number of the cause.
+-- The line of a reply: `n` with tasks, states and operations, `r` with task, response and 1 if the state moved, else 0, `x` with the
+-- number of the cause.
 abbrev pub replyLine : Reply → List ℕ
 replyLine Silent = []
 replyLine (Started k s m) = numberLine 110 (k ∷ s ∷ m ∷ [])
-replyLine (Ended t r) = numberLine 114 (t ∷ r ∷ [])
+replyLine (Ended t r moved) = numberLine 114 (t ∷ r ∷ bit moved ∷ [])
 replyLine (Refused c) = numberLine 120 (numberOf c ∷ [])
 
 -- The line of the cells: `m`, each cell in hex digits, and how many marks are set in all of them.

@@ -1,6 +1,7 @@
 // What a served line is answered with, and the lines that are printed.
 use crate::text;
 use crate::text::Base;
+use cells::bit;
 use refusal::Refusal;
 ghost use mathlib.Core.Path.{_≡_};
 ghost use Prim.Native.Nat.{_≤_};
@@ -19,6 +20,7 @@ pub enum Reply {
     Ended {
         task: u16,
         response: u16,
+        moved: bool,
     },
     Refused(Refusal),
 }
@@ -69,7 +71,16 @@ pub fn reply_line(reply: Reply) -> Text
             states,
             operations,
         } => { number_line(b'n', &[tasks as u64, states as u64, operations as u64]) }
-        Reply::Ended { task, response } => number_line(b'r', &[task as u64, response as u64]),
+        Reply::Ended {
+            task,
+            response,
+            moved,
+        } => {
+            number_line(
+                b'r',
+                &[task as u64, response as u64, bit::bit_of(moved) as u64],
+            )
+        }
         Reply::Refused(cause) => number_line(b'x', &[refusal::number(cause) as u64]),
     }
 }

@@ -1,6 +1,6 @@
 -- The theorems about the bench as a whole: a proof of each statement of specs/Statement.antt.
 use mathlib.Core.Path.{_≡_, refl, sym, ap, subst, _∙_}
-use mathlib.Core.Bool.{true, false}
+use mathlib.Core.Bool.{Bool, true, false}
 use mathlib.Core.List.{List, [], _∷_, _++_}
 use Prim.Native.Nat.{ℕ, zero, suc, _+_, _-_, _≤_}
 use native.Mathlib.Omega.{arith}
@@ -44,20 +44,20 @@ step-reply file bench t a e = ap (stepReply t) e
 
 -- `d t` ends with a response from here on.
 abbrev Responds : List ℕ → (k t : ℕ) → Handled → Type 0
-Responds file k t out = (r : ℕ) × (finishFrom k file t out .reply ≡ reply.Ended t r)
+Responds file k t out = (r : ℕ) × (v : Bool) × (finishFrom k file t out .reply ≡ reply.Ended t r v)
 
 -- The first answer that is not running is the last.
-ended-responds : (file : List ℕ) (k t : ℕ) (bench : Bench) (r i : ℕ) → answerOn file bench t ≡ step.Ended r i → Responds file k t (stepBench file bench t)
-ended-responds file k t bench r i e =
-    let told = step-reply file bench t (step.Ended r i) e in
-    (r, ap (λ (h : Handled). h .reply) (finish-last k file t (stepBench file bench t) (ap runsOn told)) ∙ told)
+ended-responds : (file : List ℕ) (k t : ℕ) (bench : Bench) (r : ℕ) (v : Bool) (i : ℕ) → answerOn file bench t ≡ step.Ended r v i → Responds file k t (stepBench file bench t)
+ended-responds file k t bench r v i e =
+    let told = step-reply file bench t (step.Ended r v i) e in
+    (r, v, ap (λ (h : Handled). h .reply) (finish-last k file t (stepBench file bench t) (ap runsOn told)) ∙ told)
 
 module _ {file : List ℕ} {n q : ℕ} {s : Store} (o : Opening file n q s) (t x : ℕ) where
   -- An accepted step ends the operation, or answers running, and then more steps end it.
   accepted-responds : (k : ℕ) (bench : Bench) → StepAccepted (stepSaid (answerOn file bench t)) → (a : StepAnswer) → answerOn file bench t ≡ a
       → (answerOn file bench t ≡ step.Running → Responds file k t (stepBench file bench t)) → Responds file k t (stepBench file bench t)
   accepted-responds k bench h step.Running e more = more e
-  accepted-responds k bench h (step.Ended r i) e more = ended-responds file k t bench r i e
+  accepted-responds k bench h (step.Ended r v i) e more = ended-responds file k t bench r v i e
   accepted-responds k bench h (step.Refused c) e more = absurd (rw e at h)
 
   -- Operation x of task t is pending after j own steps, and k more steps would reach the greatest ceiling.
@@ -73,7 +73,7 @@ module _ {file : List ℕ} {n q : ℕ} {s : Store} (o : Opening file n q s) (t x
       let ends = accepted-responds k bench (rw told at (pending-timely o xs t x j p .accepted)) (answerOn file bench t) refl (λ e.
       running-responds k (suc j) (stepBench file bench t) (xs ++ (Step t ∷ [])) (nine-step file bench nine t) (run-more file xs (Step t) s ∙ next)
       (ap runsOn (step-reply file bench t step.Running e)) (pending-longer o xs t x j p (told ∙ ap stepSaid e)) (omega arith)) in
-      (ends .0, ap (λ (h : Handled). h .reply) more ∙ ends .1)
+      (ends .0, ends .1, ap (λ (h : Handled). h .reply) more ∙ ends .2)
 
 -- ---- From the first step
 
@@ -115,7 +115,7 @@ finishes file bytes input t = at (answerOn file bench t) refl
 
     at : (a : StepAnswer) → answerOn file bench t ≡ a → EndsBy t (stepBench file bench t .reply) (finishBench file bench t .reply)
     at step.Running e = ends step.Running e (let c = consistent-after file bytes input in responds (c .nine) (c .situation) e)
-    at (step.Ended r i) e = ends (step.Ended r i) e (last (step.Ended r i) e refl)
+    at (step.Ended r v i) e = ends (step.Ended r v i) e (last (step.Ended r v i) e refl)
     at (step.Refused c) e = ends (step.Refused c) e (last (step.Refused c) e refl)
 
 -- ---- What is printed

@@ -85,10 +85,10 @@ beginBench file bench t o = beginAfter bench (beginFirst file (bench .row) (benc
 
 -- ---- `s t`: a step that answers running prints nothing
 
--- A step that ends its operation prints the response; a refused one prints its number.
+-- A step that ends its operation prints the response and whether the state moved; a refused one prints its number.
 abbrev pub stepReply : ℕ → StepAnswer → Reply
 stepReply t step.Running = reply.Silent
-stepReply t (step.Ended r k) = reply.Ended t r
+stepReply t (step.Ended r v k) = reply.Ended t r v
 stepReply t (step.Refused c) = reply.Refused c
 
 -- A step on the first of the cells and of the records; the others remain.
@@ -114,7 +114,7 @@ stepBench file bench t = stepAfter t (stepHeld file (bench .cells) (bench .row) 
 abbrev pub runsOn : Reply → Bool
 runsOn reply.Silent = true
 runsOn (reply.Started k s m) = false
-runsOn (reply.Ended t r) = false
+runsOn (reply.Ended t r v) = false
 runsOn (reply.Refused c) = false
 
 -- After a step that answered running comes another one.

@@ -1,6 +1,6 @@
 -- What is proved of the bench as a whole, as types over its definitions. `proofs/Theorem.antt` has a proof of each.
 use mathlib.Core.Path.{_≡_}
-use mathlib.Core.Bool.{false, cond}
+use mathlib.Core.Bool.{Bool, false, cond}
 use mathlib.Core.List.{List, [], _∷_, _++_}
 use Prim.Native.Nat.{ℕ}
 use lib.Dec.{eqb}
@@ -14,11 +14,11 @@ use Rattle.bench_lines.specs.Line.{newline}
 use Rattle.bench_session.specs.Session.{isServed, tableText, outputOf, Fed, newSession, andThen, feed, finishText}
 
 -- How `d t` ends, by the reply of its first step: one that ends the operation or is refused is the last; after one that
--- answers running the operation ends with a response.
+-- answers running the operation ends with a response and whether the state moved.
 abbrev pub EndsBy : ℕ → (first last : Reply) → Type 0
-EndsBy t reply.Silent last = (r : ℕ) × (last ≡ reply.Ended t r)
+EndsBy t reply.Silent last = (r : ℕ) × (v : Bool) × (last ≡ reply.Ended t r v)
 EndsBy t (reply.Started k s m) last = ⊥
-EndsBy t (reply.Ended u r) last = last ≡ reply.Ended u r
+EndsBy t (reply.Ended u r v) last = last ≡ reply.Ended u r v
 EndsBy t (reply.Refused c) last = last ≡ reply.Refused c
 
 -- The bench after any input.

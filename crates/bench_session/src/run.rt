@@ -180,7 +180,15 @@ fn step_reply(task: u16, answer: StepAnswer) -> Reply
 {
     match answer {
         StepAnswer::Running => Reply::Silent,
-        StepAnswer::Ended { response, steps: _ } => Reply::Ended { task, response },
+        StepAnswer::Ended {
+            response,
+            moved,
+            steps: _,
+        } => Reply::Ended {
+            task,
+            response,
+            moved,
+        },
         StepAnswer::Refused(cause) => Reply::Refused(cause),
     }
 }
@@ -214,6 +222,7 @@ fn runs_on(handled: Handled) -> bool
         Reply::Ended {
             task: _,
             response: _,
+            moved: _,
         } => false,
         Reply::Refused(_) => false,
     }
