@@ -133,7 +133,10 @@ impl Run {
     fn step(&mut self, table: &Table, task: usize) -> Printed {
         match calls::step(table, &mut self.cells, &mut self.row, task)? {
             Answer::Running => Ok(None),
-            Answer::Ended { response, .. } => Ok(Some(format!("r {task} {response}"))),
+            Answer::Ended { response, moved, .. } => {
+                let moved = u8::from(moved);
+                Ok(Some(format!("r {task} {response} {moved}")))
+            }
         }
     }
 
@@ -167,10 +170,10 @@ mod tests {
     fn the_flag_listing() {
         let input = "n 2\nb 0 1\nd 0\nb 1 0\ns 1\nb 1 2\nm\nd 1\nm\n";
         let expected = "n 2 2 3
-r 0 0
-r 1 1
+r 0 0 1
+r 1 1 0
 m 0000000000000100 0000000000000000 0000000000000000 0
-r 1 1
+r 1 1 1
 m 0000000000000000 0000000000000000 0000000000000000 0
 ";
         assert_eq!(on_flag(input), expected);
@@ -204,7 +207,7 @@ m 0000000000000000 0000000000000000 0000000000000000 0
     fn begin_twice_and_a_step_when_idle() {
         assert_eq!(
             on_flag("n 1\nb 0 1\nb 0 1\nd 0\ns 0\nd 0\n"),
-            "n 1 2 3\nx 9\nr 0 0\nx 10\nx 10\n"
+            "n 1 2 3\nx 9\nr 0 0 1\nx 10\nx 10\n"
         );
         assert_eq!(on_flag("n 2\nb 2 9\nb 256 0\nb 1 3\nb 1 256\ns 2\nd 256\n"), {
             "n 2 2 3\nx 7\nx 7\nx 8\nx 8\nx 7\nx 7\n"
@@ -235,10 +238,22 @@ m 0000000000000000 0000000000000000 0000000000000000 0
             format!("n 2 2 3\n{linked}")
         );
         let steps = "s 0\n".repeat(6);
-        let held = "m 0000000001000100 0000000000010100 0000000000000000 0\n";
+        let held = "m 0000000011000100 0000000000010100 0000000000000000 0\n";
         assert_eq!(
             on_flag(&format!("n 2\nb 0 1\n{steps}m\n")),
             format!("n 2 2 3\n{held}")
         );
+        let held = "m 0000000001000000 0000000000020100 0000000000000000 0\n";
+        assert_eq!(
+            on_flag(&format!("n 2\nb 0 2\n{steps}m\n")),
+            format!("n 2 2 3\n{held}")
+        );
+    }
+
+    #[test]
+    fn an_operation_says_whether_it_moved_the_state_that_it_met() {
+        let input = "n 1\nb 0 2\nd 0\nb 0 1\nd 0\nb 0 1\nd 0\nb 0 0\nd 0\nb 0 2\nd 0\n";
+        let expected = "n 1 2 3\nr 0 0 0\nr 0 0 1\nr 0 1 0\nr 0 1 0\nr 0 1 1\n";
+        assert_eq!(on_flag(input), expected);
     }
 }

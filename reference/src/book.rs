@@ -5,6 +5,7 @@ use crate::configuration::{Call, CallAnswer, Configuration};
 use crate::machine::Answer;
 use crate::phase::Phase;
 use crate::refusal::Refusal;
+use crate::reply::Reply;
 use crate::table::Table;
 
 /// An operation begun: its task, its number and the place of its begin among the calls.
@@ -19,7 +20,18 @@ pub struct Begun {
 pub enum Status {
     Idle,
     Waiting { begun: Begun, count: u32 },
-    Done { response: u16, count: u32 },
+    Done { response: u16, moved: bool, count: u32 },
+}
+
+impl Status {
+    pub fn done(reply: Reply, count: u32) -> Status {
+        let Reply { response, moved } = reply;
+        Status::Done {
+            response,
+            moved,
+            count,
+        }
+    }
 }
 
 #[derive(Clone, Debug, PartialEq, Eq)]
@@ -56,12 +68,14 @@ impl Book {
             return Err(format!("book: task {task} is entered but not waiting"));
         };
         let entry = table.entry(self.state, begun.operation);
-        self.state = usize::from(entry.next);
-        self.order.push(begun);
+        let next = usize::from(entry.next);
         self.tasks[task] = Status::Done {
             response: entry.response,
+            moved: next != self.state,
             count,
         };
+        self.state = next;
+        self.order.push(begun);
         Ok(())
     }
 
@@ -98,20 +112,50 @@ impl Book {
         Ok(None)
     }
 
-    /// Running or ended is the program's choice; on ended the task must be done, with response and count.
+    /// Running or ended is the program's choice; on ended the task must be done, with response, moved and count.
     fn book_step(&mut self, task: usize, answer: CallAnswer) -> CallAnswer {
         let status = self.tasks.get_mut(task).ok_or(Refusal::Task)?;
         let ended = matches!(answer, Ok(Some(Answer::Ended { .. })));
         match status {
             Status::Idle => return Err(Refusal::Idle),
-            Status::Done { response, count } if ended => {
-                let (response, steps) = (*response, *count + 1);
+            &mut Status::Done {
+                response,
+                moved,
+                count,
+            } if ended => {
                 *status = Status::Idle;
-                return Ok(Some(Answer::Ended { response, steps }));
+                return Ok(Some(Answer::Ended {
+                    response,
+                    moved,
+                    steps: count + 1,
+                }));
             }
             Status::Waiting { count, .. } | Status::Done { count, .. } => *count += 1,
         }
         Ok(Some(Answer::Running))
+    }
+
+    /// A head with a holder and an announcement of kind 2 carry a reply. The task that it is for must be done, so that
+    /// its operation stands in the order, and the reply must be the one that its entry gave.
+    pub fn check_carried(&self, point: &Configuration) -> Result<(), String> {
+        if let Some(holder) = point.holder() {
+            self.check_carried_for(holder.task, holder.reply, "head")?;
+        }
+        for task in 0..point.tasks {
+            if let Announcement::Response(reply) = point.content(task) {
+                self.check_carried_for(task, reply, "announcement")?;
+            }
+        }
+        Ok(())
+    }
+
+    fn check_carried_for(&self, task: usize, reply: Reply, cell: &str) -> Result<(), String> {
+        match self.tasks.get(task) {
+            Some(&Status::Done { response, moved, .. }) if reply == (Reply { response, moved }) => Ok(()),
+            status => Err(format!(
+                "carried: the {cell} has {reply:?} for task {task}, the book has {status:?}"
+            )),
+        }
     }
 
     /// The book's state and its tasks are those of the point.
@@ -155,11 +199,10 @@ fn status_of(point: &Configuration, task: usize) -> Status {
     };
     match (point.content(task), point.holder()) {
         _ if !record.is_pending() => Status::Idle,
-        (Announcement::Response(response), _) => Status::Done { response, count },
-        (Announcement::Operation(_), Some(holder)) if holder.task == task => Status::Done {
-            response: holder.response,
-            count,
-        },
+        (Announcement::Response(reply), _) => Status::done(reply, count),
+        (Announcement::Operation(_), Some(holder)) if holder.task == task => {
+            Status::done(holder.reply, count)
+        }
         _ => Status::Waiting { begun, count },
     }
 }
@@ -174,5 +217,87 @@ pub fn entered_before(point: &Configuration, call: Call) -> Option<usize> {
         Phase::ReadOnly => Some(task),
         Phase::Apply(other) if point.head() == record.head => Some(other),
         _ => None,
+    }
+}
+
+#[cfg(test)]
+mod tests {
+    use super::*;
+    use crate::objects::{counter_up, flag};
+    use crate::record::Record;
+
+    const SET: usize = 1;
+
+    /// A book of one task after the begin of an operation.
+    fn begun(table: &Table, operation: usize) -> Book {
+        let mut book = Book::new(table, 1);
+        let begin = Call::Begin { task: 0, operation };
+        book.book(table, begin, Ok(None)).unwrap();
+        book
+    }
+
+    fn ended(response: u16, moved: bool) -> CallAnswer {
+        Ok(Some(Answer::Ended {
+            response,
+            moved,
+            steps: 1,
+        }))
+    }
+
+    #[test]
+    fn the_page_takes_response_and_moved_from_the_entry_used() {
+        for (state, moved) in [(0, true), (1, false)] {
+            let table = flag();
+            let mut book = begun(&table, SET);
+            book.state = state;
+            book.enter(&table, 0).unwrap();
+            let response = state as u16;
+            assert_eq!(book.tasks, [Status::done(Reply { response, moved }, 0)]);
+            assert_eq!(book.state, 1);
+        }
+    }
+
+    #[test]
+    fn an_end_agrees_in_response_and_in_moved() {
+        let table = flag();
+        let mut entered = begun(&table, SET);
+        entered.enter(&table, 0).unwrap();
+        let booked = |answer| entered.clone().book(&table, Call::Step { task: 0 }, answer);
+        assert_eq!(booked(ended(0, true)), Ok(()));
+        for wrong in [ended(0, false), ended(1, true), ended(1, false)] {
+            assert!(booked(wrong).is_err());
+        }
+    }
+
+    /// What is said of some cells by a book whose task 0 has counted up in state 0, or only waits to do so.
+    fn said(cells: [u64; 2], entered: bool) -> String {
+        let (table, up) = counter_up();
+        let mut book = begun(&table, up);
+        if entered {
+            book.enter(&table, 0).unwrap();
+        }
+        let point = Configuration::of_parts(&cells, &[Record::idle(0)]);
+        book.check_carried(&point).err().unwrap_or_default()
+    }
+
+    #[test]
+    fn a_word_carries_the_reply_of_its_page() {
+        assert_eq!(said([0x1100_0100, 0x0001_0100], true), "");
+        assert_eq!(said([0x1100_0100, 0x0100_0200], true), "");
+        assert_eq!(said([0x100, 0x0100_0201], true), "");
+        for head in [0x0100_0100, 0x1101_0100, 0x0101_0100, 0x1200_0100] {
+            assert!(said([head, 0], true).starts_with("carried: the head"));
+        }
+        for announcement in [0x200, 0x0101_0200, 0x0001_0200] {
+            let cells = [0x1100_0100, announcement];
+            assert!(said(cells, true).starts_with("carried: the announcement"));
+        }
+    }
+
+    #[test]
+    fn a_word_carries_nothing_for_a_task_that_waits() {
+        assert_eq!(said([0, 0x0001_0100], false), "");
+        assert!(said([0x1100_0100, 0x0001_0100], false).starts_with("carried: the head"));
+        assert!(said([0, 0x0100_0200], false).starts_with("carried: the announcement"));
     }
 }

@@ -3,7 +3,7 @@
 
 use crate::ceiling::ceiling;
 use crate::cells::{announcement_in_form, head_in_form, image, Head};
-use crate::machine::{self, Answer, Outcome, HEAD_CELL};
+use crate::machine::{self, Access, Answer, Outcome, HEAD_CELL};
 use crate::phase::Phase;
 use crate::record::Record;
 use crate::refusal::Refusal;
@@ -41,16 +41,14 @@ pub fn begin(table: &Table, row: &mut [Record], task: usize, operation: usize) -
     Ok(())
 }
 
-/// How a record follows from what the access gave back.
-pub type Advance = fn(&Table, usize, usize, &Record, Outcome) -> (Record, Answer);
-
 /// Makes one access to one cell and changes one task's record.
 pub fn step(table: &Table, cells: &mut [u64], row: &mut [Record], task: usize) -> Result<Answer, Refusal> {
-    step_by(machine::advance, table, cells, row, task)
+    step_by(machine::plan, machine::advance, table, cells, row, task)
 }
 
 /// A step by other rules than the machine's: the explorer must find the wrong ones.
 pub fn step_by(
+    plan: impl Fn(&Table, usize, &Record) -> Access,
     advance: impl Fn(&Table, usize, usize, &Record, Outcome) -> (Record, Answer),
     table: &Table,
     cells: &mut [u64],
@@ -63,7 +61,7 @@ pub fn step_by(
     test_task(row, task)?;
     test_record(table, row, task)?;
     refuse_unless(row[task].is_pending(), Refusal::Idle)?;
-    let access = machine::plan(table, task, &row[task]);
+    let access = plan(table, task, &row[task]);
     test_cell(table, tasks, access.cell, cells[access.cell])?;
     test_used_entry(table, &row[task], cells[access.cell])?;
     let outcome = machine::perform(cells, access);
@@ -121,11 +119,8 @@ fn test_used_entry(table: &Table, record: &Record, word: u64) -> Result<(), Refu
 #[cfg(test)]
 mod tests {
     use super::*;
+    use crate::objects::flag;
     use crate::table_file::TableFile;
-
-    fn flag() -> Table<'static> {
-        Table::check(TableFile::flag().kept()).unwrap()
-    }
 
     fn started(tasks: usize) -> (Table<'static>, Vec<u64>, Vec<Record>) {
         let table = flag();
@@ -135,11 +130,20 @@ mod tests {
         (table, cells, row)
     }
 
+    fn ended(response: u16, moved: bool, steps: u32) -> Answer {
+        Answer::Ended {
+            response,
+            moved,
+            steps,
+        }
+    }
+
     /// Runs a task alone to its end.
-    fn finish(table: &Table, cells: &mut [u64], row: &mut [Record], task: usize) -> (u16, u32) {
+    fn finish(table: &Table, cells: &mut [u64], row: &mut [Record], task: usize) -> Answer {
         loop {
-            if let Answer::Ended { response, steps } = step(table, cells, row, task).unwrap() {
-                return (response, steps);
+            let answer = step(table, cells, row, task).unwrap();
+            if answer != Answer::Running {
+                return answer;
             }
         }
     }
@@ -216,14 +220,7 @@ mod tests {
         let mut row = [Record::idle(0).with_phase(Phase::ReadOnly)];
         assert_eq!(step(&table, &mut [0x200, 0], &mut row, 0), Err(Refusal::Cell));
         assert_eq!(step(&table, &mut [0, 0], &mut row, 0), Err(Refusal::NextState));
-        let answer = step(&table, &mut [0x100, 0], &mut row, 0);
-        assert_eq!(
-            answer,
-            Ok(Answer::Ended {
-                response: 1,
-                steps: 1
-            })
-        );
+        assert_eq!(step(&table, &mut [0x100, 0], &mut row, 0), Ok(ended(1, false, 1)));
         let mut row = [Record::idle(0).with_phase(Phase::Apply(0))];
         assert_eq!(
             step(&table, &mut [0x100, 0], &mut row, 0),
@@ -256,15 +253,67 @@ mod tests {
     fn a_reading_operation_ends_in_its_first_step() {
         let (table, mut cells, mut row) = started(1);
         begin(&table, &mut row, 0, 0).unwrap();
-        assert_eq!(finish(&table, &mut cells, &mut row, 0), (0, 1));
+        assert_eq!(finish(&table, &mut cells, &mut row, 0), ended(0, false, 1));
+    }
+
+    /// The flag: who sets it in 0 or clears it in 1 moves it, and nobody else.
+    #[test]
+    fn an_operation_moves_by_the_entry_that_it_uses() {
+        let (table, mut cells, mut row) = started(1);
+        let mut made = |operation: usize| {
+            begin(&table, &mut row, 0, operation).unwrap();
+            match finish(&table, &mut cells, &mut row, 0) {
+                Answer::Ended { response, moved, .. } => (response, moved),
+                Answer::Running => panic!("the operation is over"),
+            }
+        };
+        let (read, set, clear) = (0, 1, 2);
+        assert_eq!(
+            [read, clear, set].map(&mut made),
+            [(0, false), (0, false), (0, true)]
+        );
+        assert_eq!(
+            [read, set, clear].map(&mut made),
+            [(1, false), (1, false), (1, true)]
+        );
+    }
+
+    /// No begin leads there: the phase alone says that the operation reads.
+    #[test]
+    fn a_reading_step_answers_by_its_entry_too() {
+        let reading = |operation: u16| {
+            let mut row = [Record {
+                operation,
+                ..Record::idle(0).with_phase(Phase::ReadOnly)
+            }];
+            step(&flag(), &mut [0x1100_0100, 0], &mut row, 0)
+        };
+        assert_eq!(reading(0), Ok(ended(1, false, 1)));
+        assert_eq!(reading(1), Ok(ended(1, false, 1)));
+        assert_eq!(reading(2), Ok(ended(1, true, 1)));
+    }
+
+    #[test]
+    fn damaged_moved_bits_are_refused() {
+        let (table, mut cells, mut row) = started(1);
+        begin(&table, &mut row, 0, 1).unwrap();
+        cells[1] = 0x0100_0000;
+        assert_eq!(step(&table, &mut cells, &mut row, 0), Err(Refusal::Cell));
+        cells[1] = 0;
+        for _ in 0..2 {
+            assert_eq!(step(&table, &mut cells, &mut row, 0), Ok(Answer::Running));
+        }
+        cells[0] = 0x1000_0000;
+        assert_eq!(step(&table, &mut cells, &mut row, 0), Err(Refusal::Cell));
+        row[0].head = 0x1000_0000;
+        assert_eq!(step(&table, &mut cells, &mut row, 0), Err(Refusal::Record));
     }
 
     #[test]
     fn a_changing_operation_alone_leaves_the_image_and_the_next_priority() {
         let (table, mut cells, mut row) = started(2);
         begin(&table, &mut row, 0, 1).unwrap();
-        let (response, _) = finish(&table, &mut cells, &mut row, 0);
-        assert_eq!(response, 0);
+        assert_eq!(finish(&table, &mut cells, &mut row, 0), ended(0, true, 17));
         assert_eq!(cells, image(1, 2));
         assert_eq!(row[0], Record::idle(1));
     }

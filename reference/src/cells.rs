@@ -1,5 +1,7 @@
 //! The cells: layout of head and announcement, their forms, the image of a state and the count of marks.
 
+use crate::reply::Reply;
+
 pub const MOST_TASKS: usize = 8;
 
 /// A run of bits of a cell.
@@ -27,17 +29,20 @@ const MARKS: Field = Field { shift: 0, width: 8 };
 const HEAD_STATE: Field = Field { shift: 8, width: 8 };
 const HEAD_RESPONSE: Field = Field { shift: 16, width: 8 };
 const HEAD_HOLDER: Field = Field { shift: 24, width: 4 };
+const HEAD_MOVED: Field = Field { shift: 28, width: 1 };
 const KIND: Field = Field { shift: 8, width: 2 };
 const PAYLOAD: Field = Field { shift: 16, width: 8 };
+const MOVED: Field = Field { shift: 24, width: 1 };
 
-const HEAD_BITS: u64 = MARKS.mask() | HEAD_STATE.mask() | HEAD_RESPONSE.mask() | HEAD_HOLDER.mask();
-const ANNOUNCEMENT_BITS: u64 = MARKS.mask() | KIND.mask() | PAYLOAD.mask();
+const HEAD_BITS: u64 =
+    MARKS.mask() | HEAD_STATE.mask() | HEAD_RESPONSE.mask() | HEAD_HOLDER.mask() | HEAD_MOVED.mask();
+const ANNOUNCEMENT_BITS: u64 = MARKS.mask() | KIND.mask() | PAYLOAD.mask() | MOVED.mask();
 
-/// The task whose operation the head holds, and its response.
+/// The task whose operation the head holds, and what that operation answers.
 #[derive(Clone, Copy, Debug, PartialEq, Eq)]
 pub struct Holder {
     pub task: usize,
-    pub response: u16,
+    pub reply: Reply,
 }
 
 /// A head without its marks.
@@ -51,8 +56,10 @@ impl Head {
     pub fn encode(self) -> u64 {
         let held = match self.holder {
             None => 0,
-            Some(holder) => {
-                HEAD_HOLDER.put(holder.task as u64 + 1) | HEAD_RESPONSE.put(u64::from(holder.response))
+            Some(Holder { task, reply }) => {
+                HEAD_HOLDER.put(task as u64 + 1)
+                    | HEAD_RESPONSE.put(u64::from(reply.response))
+                    | HEAD_MOVED.put(u64::from(reply.moved))
             }
         };
         HEAD_STATE.put(u64::from(self.state)) | held
@@ -64,7 +71,10 @@ impl Head {
             0 => None,
             number => Some(Holder {
                 task: number as usize - 1,
-                response: HEAD_RESPONSE.get(word) as u16,
+                reply: Reply {
+                    response: HEAD_RESPONSE.get(word) as u16,
+                    moved: HEAD_MOVED.get(word) == 1,
+                },
             }),
         };
         Head {
@@ -83,7 +93,7 @@ impl Head {
 pub enum Announcement {
     Empty,
     Operation(u16),
-    Response(u16),
+    Response(Reply),
 }
 
 impl Announcement {
@@ -91,7 +101,9 @@ impl Announcement {
         match self {
             Announcement::Empty => 0,
             Announcement::Operation(number) => KIND.put(1) | PAYLOAD.put(u64::from(number)),
-            Announcement::Response(response) => KIND.put(2) | PAYLOAD.put(u64::from(response)),
+            Announcement::Response(reply) => {
+                KIND.put(2) | PAYLOAD.put(u64::from(reply.response)) | MOVED.put(u64::from(reply.moved))
+            }
         }
     }
 
@@ -100,7 +112,10 @@ impl Announcement {
         let payload = PAYLOAD.get(word) as u16;
         match KIND.get(word) {
             1 => Announcement::Operation(payload),
-            2 => Announcement::Response(payload),
+            2 => Announcement::Response(Reply {
+                response: payload,
+                moved: MOVED.get(word) == 1,
+            }),
             _ => Announcement::Empty,
         }
     }
@@ -143,14 +158,15 @@ pub fn head_in_form(word: u64, states: usize, tasks: usize) -> bool {
         && marks_in_form(word, tasks)
         && HEAD_STATE.get(word) < states as u64
         && HEAD_HOLDER.get(word) <= MOST_TASKS as u64
-        && (HEAD_HOLDER.get(word) != 0 || HEAD_RESPONSE.get(word) == 0)
+        && (HEAD_HOLDER.get(word) != 0 || (HEAD_RESPONSE.get(word) == 0 && HEAD_MOVED.get(word) == 0))
 }
 
 pub fn announcement_in_form(word: u64, operations: usize, tasks: usize) -> bool {
     let payload = PAYLOAD.get(word);
+    let moved = MOVED.get(word) == 1;
     let content_fits = match KIND.get(word) {
-        0 => payload == 0,
-        1 => payload < operations as u64,
+        0 => payload == 0 && !moved,
+        1 => payload < operations as u64 && !moved,
         2 => true,
         _ => false,
     };
@@ -184,11 +200,67 @@ mod tests {
     fn a_response_needs_a_holder() {
         assert!(!head_in_form(0x0001_0000, 2, 2));
         assert!(head_in_form(0x0101_0000, 2, 2));
-        let held = Head {
+        assert_eq!(Head::decode(0x0101_0000), held(0, 1, false));
+    }
+
+    /// The head in state 0 that holds a reply for a task.
+    fn held(task: usize, response: u16, moved: bool) -> Head {
+        let reply = Reply { response, moved };
+        Head {
             state: 0,
-            holder: Some(Holder { task: 0, response: 1 }),
+            holder: Some(Holder { task, reply }),
+        }
+    }
+
+    #[test]
+    fn the_moved_bit_of_a_head_needs_a_holder() {
+        for in_form in [0x1101_0000, 0x1100_0000, 0x18ff_0000, 0x1100_0101] {
+            assert!(head_in_form(in_form, 2, 1), "{in_form:#x}");
+        }
+        for out_of_form in [0x1000_0000, 0x1001_0000, 0x1000_0101, 0x2100_0000, 0x1900_0000] {
+            assert!(!head_in_form(out_of_form, 2, 1), "{out_of_form:#x}");
+        }
+        assert_eq!(Head::decode(0x1101_0000), held(0, 1, true));
+        assert_eq!(held(7, 255, true).encode(), 0x18ff_0000);
+        let unheld = Head {
+            state: 1,
+            holder: None,
         };
-        assert_eq!(Head::decode(0x0101_0000), held);
+        assert_eq!(Head::decode(0x1001_0100), unheld);
+    }
+
+    #[test]
+    fn the_moved_bit_of_an_announcement_needs_kind_2() {
+        for in_form in [0x0100_0200, 0x01ff_0200, 0x00ff_0200, 0x0100_0201] {
+            assert!(announcement_in_form(in_form, 3, 1), "{in_form:#x}");
+        }
+        for out_of_form in [
+            0x0100_0000,
+            0x0100_0001,
+            0x0100_0100,
+            0x0102_0100,
+            0x0100_0300,
+            0x0200_0200,
+        ] {
+            assert!(!announcement_in_form(out_of_form, 3, 1), "{out_of_form:#x}");
+        }
+        let reply = Reply {
+            response: 255,
+            moved: true,
+        };
+        assert_eq!(Announcement::Response(reply).encode(), 0x01ff_0200);
+        assert_eq!(Announcement::decode(0x0102_0100), Announcement::Operation(2));
+        assert_eq!(Announcement::decode(0x0102_0000), Announcement::Empty);
+    }
+
+    #[test]
+    fn bits_without_a_name_are_0() {
+        for bit in 29..64 {
+            assert!(!head_in_form(0x0101_0000 | 1 << bit, 2, 1), "bit {bit}");
+        }
+        for bit in (10..16).chain(25..64) {
+            assert!(!announcement_in_form(0x0001_0200 | 1 << bit, 3, 1), "bit {bit}");
+        }
     }
 
     #[test]
@@ -197,8 +269,6 @@ mod tests {
         assert!(!head_in_form(0x200, 2, 8));
         assert!(head_in_form(0x0800_0000, 2, 1));
         assert!(!head_in_form(0x0900_0000, 2, 8));
-        assert!(!head_in_form(0x1000_0000, 2, 8));
-        assert!(!head_in_form(1 << 63, 2, 8));
     }
 
     #[test]
@@ -217,8 +287,6 @@ mod tests {
         assert!(!announcement_in_form(0x0003_0100, 3, 1));
         assert!(announcement_in_form(0x00ff_0200, 3, 1));
         assert!(!announcement_in_form(0x0000_0300, 3, 1));
-        assert!(!announcement_in_form(0x0000_0400, 3, 1));
-        assert!(!announcement_in_form(0x0100_0200, 3, 1));
     }
 
     #[test]
@@ -226,11 +294,10 @@ mod tests {
         for state in [0, 1, 255] {
             assert_head_survives(Head { state, holder: None });
             for task in 0..MOST_TASKS {
-                let holder = Some(Holder {
-                    task,
-                    response: 255 - state,
-                });
-                assert_head_survives(Head { state, holder });
+                for moved in [false, true] {
+                    let head = held(task, 255 - state, moved);
+                    assert_head_survives(Head { state, ..head });
+                }
             }
         }
     }
@@ -245,7 +312,12 @@ mod tests {
     #[test]
     fn announcements_are_decoded_as_they_were_encoded() {
         let operations = (0..32).map(Announcement::Operation);
-        let responses = (0..256).map(Announcement::Response);
+        let responses = (0..2 << 8).map(|number| {
+            Announcement::Response(Reply {
+                response: number & 0xff,
+                moved: number >> 8 == 1,
+            })
+        });
         for announcement in operations.chain(responses).chain([Announcement::Empty]) {
             let word = announcement.encode();
             assert!(announcement_in_form(word, 32, 1));
@@ -255,7 +327,7 @@ mod tests {
 
     #[test]
     fn words_in_form_are_encoded_as_they_were_decoded() {
-        for word in (0..1u64 << 28).step_by(251) {
+        for word in (0..1u64 << 29).step_by(509) {
             if head_in_form(word, 200, 8) {
                 assert_eq!(Head::decode(word).encode(), value(word));
             }

@@ -1,10 +1,11 @@
 //! A point of a run: all cells and all records; and the calls that lead from one to the next.
 
-use crate::calls::{self, Advance};
+use crate::calls;
 use crate::cells::{has_mark, image, kind, Announcement, Head, Holder, MOST_TASKS};
 use crate::machine::{announcement_cell, Answer, HEAD_CELL};
 use crate::record::Record;
 use crate::refusal::Refusal;
+use crate::rules::Rules;
 use crate::table::Table;
 
 #[derive(Clone, Copy, Debug, PartialEq, Eq)]
@@ -48,11 +49,11 @@ impl Configuration {
     }
 
     /// Makes a call; a refused one must leave everything as it was.
-    pub fn make(&mut self, advance: Advance, table: &Table, call: Call) -> CallAnswer {
+    pub fn make(&mut self, rules: Rules, table: &Table, call: Call) -> CallAnswer {
         let (cells, row) = self.parts_mut();
         match call {
             Call::Begin { task, operation } => calls::begin(table, row, task, operation).map(|()| None),
-            Call::Step { task } => calls::step_by(advance, table, cells, row, task).map(Some),
+            Call::Step { task } => rules.step(table, cells, row, task).map(Some),
         }
     }
 
@@ -97,7 +98,7 @@ impl Configuration {
         kind(self.announcement(task)) == 0
     }
 
-    /// The task's response stands in its announcement.
+    /// The task's reply stands in its announcement.
     pub fn is_cleared(&self, task: usize) -> bool {
         matches!(self.content(task), Announcement::Response(_))
     }

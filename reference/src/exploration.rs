@@ -2,10 +2,8 @@
 
 use crate::explore::{Graph, MOST_EXPLORED_TASKS};
 use crate::longest::longest_own_steps;
-use crate::machine;
 use crate::objects::explored_objects;
 use crate::random_runs;
-use crate::table::Table;
 use crate::transition::System;
 
 /// The longest counts of own steps that the design states for one and two tasks.
@@ -22,19 +20,13 @@ pub fn explore_all() -> Result<String, String> {
     Ok(format!("explore: {}", parts.join("; ")))
 }
 
-fn system<'a>(table: &'a Table<'a>) -> System<'a> {
-    System {
-        table,
-        advance: machine::advance,
-    }
-}
-
 fn explore_objects(tasks: usize) -> Result<String, String> {
     let mut points = 0;
     let mut transitions = 0;
     let mut longest = 0;
     for (name, table) in explored_objects() {
-        let graph = Graph::explore(system(&table), tasks).map_err(|message| format!("{name}: {message}"))?;
+        let graph = Graph::explore(System::of_machine(&table), tasks)
+            .map_err(|message| format!("{name}: {message}"))?;
         points += graph.count_points();
         transitions += graph.count_transitions();
         for task in 0..tasks {
@@ -59,7 +51,7 @@ fn run_schedules() -> Result<String, String> {
     let mut most_own_steps = 0;
     for tasks in 3..=8 {
         for (seed, (_, table)) in explored_objects().iter().enumerate() {
-            let findings = random_runs::run(system(table), tasks, RANDOM_CALLS, seed as u64)?;
+            let findings = random_runs::run(System::of_machine(table), tasks, RANDOM_CALLS, seed as u64)?;
             calls += findings.calls;
             ended += findings.ended;
             most_own_steps = most_own_steps.max(findings.most_own_steps);

@@ -212,7 +212,6 @@ fn hash(packed: &Packed) -> u64 {
 #[cfg(test)]
 mod tests {
     use super::*;
-    use crate::machine;
     use crate::objects::explored_objects;
 
     #[test]
@@ -233,9 +232,7 @@ mod tests {
     #[test]
     fn one_task_is_explored_whole() {
         for (name, table) in explored_objects() {
-            let advance = machine::advance;
-            let table = &table;
-            let graph = Graph::explore(System { table, advance }, 1).expect(name);
+            let graph = Graph::explore(System::of_machine(&table), 1).expect(name);
             assert!(graph.count_transitions() >= graph.count_points());
         }
     }

@@ -52,7 +52,12 @@ fn holder_is_at_work(point: &Configuration) -> bool {
     let content = point.content(holder.task);
     (phase.is_loop() || phase.is_exit())
         && (content == Announcement::Operation(record.operation)
-            || content == Announcement::Response(holder.response))
+            || content == Announcement::Response(holder.reply))
+}
+
+/// The announcement has the reply that a payload stands for, and the payload has nothing else.
+fn is_reply_of(content: Announcement, payload: u32) -> bool {
+    matches!(content, Announcement::Response(reply) if reply.to_payload() == payload)
 }
 
 /// A task, its record and the marks that the clauses speak of.
@@ -111,7 +116,7 @@ impl<'a> TaskView<'a> {
         } else if self.phase.is_loop() {
             content == Announcement::Operation(self.record.operation) || self.point.is_cleared(self.task)
         } else {
-            content == Announcement::Response(self.record.payload as u16)
+            is_reply_of(content, self.record.payload)
         }
     }
 

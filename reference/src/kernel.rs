@@ -4,8 +4,9 @@
 use crate::book::Book;
 use crate::ceiling::ceiling;
 use crate::configuration::{Call, Configuration};
-use crate::machine::{self, Answer};
+use crate::machine::Answer;
 use crate::refusal::Refusal;
+use crate::reply::moved_words;
 use crate::table::Table;
 use crate::table_file::TableFile;
 use crate::transition::System;
@@ -53,10 +54,7 @@ impl<'a> Kernel<'a> {
         let most = ceiling(tasks).map_err(refused)?;
         let (states, operations) = (table.states, table.operations);
         Ok(Kernel {
-            system: System {
-                table,
-                advance: machine::advance,
-            },
+            system: System::of_machine(table),
             point,
             book: Book::new(table, tasks),
             ended: [0; 3],
@@ -84,10 +82,16 @@ impl<'a> Kernel<'a> {
         if !self.point.record(task).is_pending() {
             self.make(Call::Begin { task, operation })?;
         }
-        if let Some(Answer::Ended { response, steps }) = self.make(Call::Step { task })? {
+        if let Some(Answer::Ended {
+            response,
+            moved,
+            steps,
+        }) = self.make(Call::Step { task })?
+        {
             self.ended[task] += 1;
+            let moved = moved_words(moved);
             self.print(format!(
-                "task {task} operation {operation} answers {response}, own steps {steps}"
+                "task {task} operation {operation} answers {response}, {moved}, own steps {steps}"
             ));
         }
         let in_last = self.ended[task] + 1 == PROGRAMS[task].len();
@@ -140,6 +144,8 @@ mod tests {
         let ended = printed.lines().filter(|line| line.contains(" answers ")).count();
         let stopped = printed.lines().filter(|line| line.contains(" stopped, ")).count();
         assert_eq!((ended, stopped), (9, 1));
+        assert!(printed.contains("\ntask 1 operation 1 answers 0, moved, own steps 24\n"));
+        assert!(printed.contains("\ntask 2 operation 0 answers 0, not moved, own steps 1\n"));
         assert!(printed.ends_with("stopped operation applied: 1\n"));
     }
 }

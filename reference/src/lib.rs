@@ -1,6 +1,7 @@
 //! The customer's rules, which docs/FORMATS.md and docs/RUNS.md give, written a second time, apart from the proved
 //! library, to compare the two.
 
+mod advance;
 pub mod bench;
 mod book;
 pub mod calls;
@@ -35,6 +36,8 @@ mod reduced;
 mod reduced_graph;
 pub mod refusal;
 mod replay;
+pub mod reply;
+mod rules;
 pub mod script_cases;
 mod search;
 pub mod table;
@@ -44,6 +47,10 @@ pub mod trace;
 pub mod trace_event;
 mod trace_steps;
 mod transition;
+#[cfg(test)]
+mod wrong_builds;
+#[cfg(test)]
+mod wrong_replies;
 #[cfg(test)]
 mod wrong_rules;
 #[cfg(test)]

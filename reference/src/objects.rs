@@ -1,4 +1,4 @@
-//! The three objects that the explorer tries, and the smallest one.
+//! The four objects that the explorer tries, and the smallest one.
 
 use crate::table::Table;
 use crate::table_file::TableFile;
@@ -9,6 +9,7 @@ pub fn explored_objects() -> Vec<(&'static str, Table<'static>)> {
         ("flag", TableFile::flag()),
         ("counter", counter()),
         ("latch", latch()),
+        ("switch", switch()),
     ]
     .map(named)
     .into()
@@ -44,11 +45,22 @@ fn latch() -> TableFile {
     TableFile::plain(3, 2, 0, entries.as_flattened())
 }
 
+/// A switch: 0 turns it on, 1 turns it off, and every response is 0. So the moved bit alone tells whether it stood
+/// otherwise before.
+fn switch() -> TableFile {
+    TableFile::plain(2, 2, 0, &[(1, 0), (0, 0), (1, 0), (0, 0)])
+}
+
+#[cfg(test)]
+pub fn flag() -> Table<'static> {
+    checked(TableFile::flag())
+}
+
 /// All objects, each with one changing operation.
 #[cfg(test)]
 pub fn changing_objects() -> Vec<(&'static str, Table<'static>, usize)> {
     let with_operation = |(name, table)| match name {
-        "latch" => (name, table, 0),
+        "latch" | "switch" => (name, table, 0),
         _ => (name, table, 1),
     };
     let mut objects: Vec<_> = explored_objects().into_iter().map(with_operation).collect();
@@ -59,6 +71,7 @@ pub fn changing_objects() -> Vec<(&'static str, Table<'static>, usize)> {
 #[cfg(test)]
 mod tests {
     use super::*;
+    use crate::reply::Reply;
 
     #[test]
     fn reading_and_changing_operations_are_as_described() {
@@ -71,5 +84,15 @@ mod tests {
         assert_eq!(changing(&objects[0].1), [false, true, true]);
         assert_eq!(changing(&objects[1].1), [false, true, true]);
         assert_eq!(changing(&objects[2].1), [true, true]);
+        assert_eq!(changing(&objects[3].1), [true, true]);
+    }
+
+    #[test]
+    fn on_the_switch_the_response_does_not_tell_whether_the_state_moves() {
+        let (_, table) = &explored_objects()[3];
+        let replies = |operation: usize| [0, 1].map(|state| table.reply(state, operation));
+        let [still, moved] = [false, true].map(|moved| Reply { response: 0, moved });
+        assert_eq!(replies(0), [moved, still]);
+        assert_eq!(replies(1), [still, moved]);
     }
 }

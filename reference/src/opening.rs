@@ -1,9 +1,9 @@
 //! The calls before the victim's operation: they set the priorities, the helpers and one task that passes the victim by.
 
 use crate::configuration::Configuration;
-use crate::machine;
 use crate::phase::Phase;
 use crate::reduced::Chase;
+use crate::rules::Rules;
 
 /// A point of a run with the calls that lead to it.
 #[derive(Clone)]
@@ -61,7 +61,7 @@ impl Opening {
         self.calls.push(task as u8);
         let call = chase.call_of(&self.point, task);
         self.point
-            .make(machine::advance, chase.table, call)
+            .make(Rules::MACHINE, chase.table, call)
             .expect("calls of a chase are accepted");
     }
 }

@@ -8,12 +8,19 @@ use crate::configuration::Configuration;
 use crate::machine::{announcement_cell, HEAD_CELL};
 use crate::phase::Phase;
 use crate::record::Record;
+use crate::reply::Reply;
 
 const HOLDER_BITS: u32 = 4;
 const PHASE_BITS: u32 = 7;
 const PRIORITY_BITS: u32 = 2;
 /// More tasks do not fit in a word.
 pub const MOST_PACKED_TASKS: usize = 4;
+
+/// The only reply of the object that stands still.
+const REPLY: Reply = Reply {
+    response: 0,
+    moved: false,
+};
 
 /// Writes fields from the lowest bit up, or reads them in the same order.
 struct Fields {
@@ -147,14 +154,14 @@ pub fn unpack(word: u64, tasks: usize, victim: usize) -> Configuration {
 }
 
 fn head_word(holder: Option<usize>) -> u64 {
-    let holder = holder.map(|task| Holder { task, response: 0 });
+    let holder = holder.map(|task| Holder { task, reply: REPLY });
     Head { state: 0, holder }.encode()
 }
 
 fn content(phase: Phase, cleared: bool) -> Announcement {
     match phase {
         Phase::Idle | Phase::ReadOnly | Phase::Announce => Announcement::Empty,
-        _ if cleared => Announcement::Response(0),
+        _ if cleared => Announcement::Response(REPLY),
         _ => Announcement::Operation(0),
     }
 }

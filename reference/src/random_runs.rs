@@ -6,14 +6,15 @@ use crate::book::{Begun, Book};
 use crate::configuration::{Call, CallAnswer, Configuration};
 use crate::machine::Answer;
 use crate::random::Random;
+use crate::reply::Reply;
 use crate::table::Table;
 use crate::transition::{Checked, System};
 
-/// An operation that ended: when it began and ended, and its response.
+/// An operation that ended: when it began and ended, and its reply.
 struct EndedOperation {
     begun: Begun,
     end: usize,
-    response: u16,
+    reply: Reply,
 }
 
 pub struct Findings {
@@ -149,37 +150,43 @@ impl History {
                     place,
                 });
             }
-            (Call::Step { task }, Ok(Some(Answer::Ended { response, steps }))) => {
-                let begun = self.pending[task]
-                    .take()
-                    .expect("an operation that ends has begun");
-                self.most_own_steps = self.most_own_steps.max(steps);
-                self.ended.push(EndedOperation {
-                    begun,
-                    end: place,
+            (
+                Call::Step { task },
+                Ok(Some(Answer::Ended {
                     response,
-                });
+                    moved,
+                    steps,
+                })),
+            ) => {
+                self.most_own_steps = self.most_own_steps.max(steps);
+                self.note_end(place, task, Reply { response, moved });
             }
             _ => {}
         }
     }
 
+    fn note_end(&mut self, end: usize, task: usize, reply: Reply) {
+        let begun = self.pending[task]
+            .take()
+            .expect("an operation that ends has begun");
+        self.ended.push(EndedOperation { begun, end, reply });
+    }
+
     /// Every ended operation stands in the order once, pending ones at most once and no others; the replay gives
-    /// the responses; an operation that ended before another began stands before it.
+    /// the replies; an operation that ended before another began stands before it.
     fn check_order(&self, table: &Table, book: &Book) -> Result<(), String> {
-        let end_of =
-            |operation: &EndedOperation| (operation.begun.place, (operation.end, operation.response));
-        let mut ends: HashMap<usize, (usize, u16)> = self.ended.iter().map(end_of).collect();
+        let end_of = |operation: &EndedOperation| (operation.begun.place, (operation.end, operation.reply));
+        let mut ends: HashMap<usize, (usize, Reply)> = self.ended.iter().map(end_of).collect();
         let mut still_pending: HashSet<usize> =
             self.pending.iter().flatten().map(|begun| begun.place).collect();
         let mut state = table.start;
         let mut latest_begin = 0;
         for begun in &book.order {
-            let entry = table.entry(state, begun.operation);
-            state = usize::from(entry.next);
+            let right = table.reply(state, begun.operation);
+            state = usize::from(table.entry(state, begun.operation).next);
             latest_begin = latest_begin.max(begun.place);
             match ends.remove(&begun.place) {
-                Some((end, response)) if end > latest_begin && response == entry.response => {}
+                Some((end, reply)) if end > latest_begin && reply == right => {}
                 None if still_pending.remove(&begun.place) => {}
                 other => return Err(format!("order: {begun:?} ends as {other:?}")),
             }
@@ -194,24 +201,26 @@ impl History {
 #[cfg(test)]
 mod tests {
     use super::*;
-    use crate::machine;
     use crate::objects::explored_objects;
 
     #[test]
     fn schedules_of_all_numbers_of_tasks_keep_the_rules() {
         for (_, table) in &explored_objects() {
-            let advance = machine::advance;
             for tasks in 1..=8 {
-                let findings = run(System { table, advance }, tasks, 3_000, 5).unwrap();
+                let findings = run(System::of_machine(table), tasks, 3_000, 5).unwrap();
                 assert!(findings.ended > 20, "{tasks} tasks: {}", findings.ended);
             }
         }
     }
 
-    fn history_of_one(response: u16) -> (History, Book, Table<'static>) {
+    fn history_of_one(response: u16, moved: bool) -> (History, Book, Table<'static>) {
         let (_, table) = explored_objects().remove(0);
         let mut history = History::new(1);
-        let answer = Answer::Ended { response, steps: 1 };
+        let answer = Answer::Ended {
+            response,
+            moved,
+            steps: 1,
+        };
         history.note(
             0,
             Call::Begin {
@@ -233,19 +242,21 @@ mod tests {
 
     #[test]
     fn an_order_that_replays_is_accepted() {
-        let (history, mut book, table) = history_of_one(0);
+        let (history, mut book, table) = history_of_one(0, false);
         book.order.push(READ);
         assert_eq!(history.check_order(&table, &book), Ok(()));
     }
 
     #[test]
     fn wrong_orders_are_found() {
-        let (history, mut book, table) = history_of_one(0);
+        let (history, mut book, table) = history_of_one(0, false);
         assert!(history.check_order(&table, &book).is_err());
         book.order = vec![READ, READ];
         assert!(history.check_order(&table, &book).is_err());
-        let (history, mut book, table) = history_of_one(1);
-        book.order = vec![READ];
-        assert!(history.check_order(&table, &book).is_err());
+        for (response, moved) in [(1, false), (0, true)] {
+            let (history, mut book, table) = history_of_one(response, moved);
+            book.order = vec![READ];
+            assert!(history.check_order(&table, &book).is_err());
+        }
     }
 }

@@ -152,7 +152,7 @@ mod tests {
             bench.serve(line);
         }
         let printed: Vec<String> = (0..108).map(|_| bench.serve(b"s 0")).collect();
-        assert_eq!(printed[107], "r 0 1\n");
+        assert_eq!(printed[107], "r 0 1 1\n");
         assert!(printed[..107].iter().all(String::is_empty));
     }
 }

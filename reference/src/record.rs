@@ -11,6 +11,7 @@ pub struct Record {
     pub phase: u8,
     pub operation: u16,
     pub priority: u8,
+    /// An operation that is to be applied, or the own reply.
     pub payload: u32,
     pub head: u64,
     pub announcement: u64,
@@ -103,11 +104,10 @@ impl Record {
 #[cfg(test)]
 mod tests {
     use super::*;
-    use crate::table_file::TableFile;
+    use crate::objects::flag;
 
     fn in_form(record: Record, tasks: usize) -> bool {
-        let table = Table::check(TableFile::flag().kept()).unwrap();
-        record.is_in_form(&table, tasks)
+        record.is_in_form(&flag(), tasks)
     }
 
     #[test]
@@ -163,6 +163,10 @@ mod tests {
         assert!(!in_form(Record { steps: 8_000, ..poll }, 2));
         assert!(!in_form(poll.with_head(0x0001_0000), 2));
         assert!(!in_form(poll.with_announcement(0x300), 2));
+        assert!(in_form(poll.with_head(0x1100_0000), 2));
+        assert!(!in_form(poll.with_head(0x1000_0000), 2));
+        assert!(in_form(poll.with_announcement(0x0100_0200), 2));
+        assert!(!in_form(poll.with_announcement(0x0100_0100), 2));
     }
 
     #[test]
@@ -170,9 +174,9 @@ mod tests {
         let apply = Record::idle(0).bare_in_phase(Phase::Apply(0));
         assert!(in_form(apply.with_payload(2), 1));
         assert!(!in_form(apply.with_payload(3), 1));
-        assert!(in_form(
-            Record::idle(0).bare_in_phase(Phase::Retract).with_payload(255),
-            1
-        ));
+        for payload in [255, 0x1_00ff, u32::MAX] {
+            let retract = Record::idle(0).bare_in_phase(Phase::Retract);
+            assert!(in_form(retract.with_payload(payload), 1));
+        }
     }
 }

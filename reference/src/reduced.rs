@@ -7,9 +7,10 @@
 //! try the other calls at points where no call is forced.
 
 use crate::configuration::{Call, Configuration};
-use crate::machine::{self, Answer};
+use crate::machine::Answer;
 use crate::phase::Phase;
 use crate::potential::is_stale;
+use crate::rules::Rules;
 use crate::table::Table;
 
 /// The one operation that every task makes.
@@ -61,7 +62,7 @@ impl<'a> Chase<'a> {
     fn make(&self, point: &mut Configuration, task: usize, made: &mut Vec<u8>) -> u32 {
         made.push(task as u8);
         let call = self.call_of(point, task);
-        let answer = point.make(machine::advance, self.table, call);
+        let answer = point.make(Rules::MACHINE, self.table, call);
         match answer {
             Ok(Some(Answer::Running | Answer::Ended { .. })) => u32::from(task == self.victim),
             Ok(None) => 0,

@@ -169,7 +169,6 @@ mod tests {
     use super::*;
     use crate::explore::Graph;
     use crate::longest::SeenBy;
-    use crate::machine;
     use crate::objects::{changing_objects, still};
     use crate::replay::replay;
     use crate::transition::System;
@@ -211,15 +210,7 @@ mod tests {
         let chase = Chase::of_still(&table);
         let reduced = ReducedGraph::explore(chase, 2);
         let reduced_counts = reduced.longest_counts().unwrap();
-        let advance = machine::advance;
-        let whole = Graph::explore(
-            System {
-                table: &table,
-                advance,
-            },
-            2,
-        )
-        .unwrap();
+        let whole = Graph::explore(System::of_machine(&table), 2).unwrap();
         let whole_counts = longest_from_all(&SeenBy {
             graph: &whole,
             task: 0,

@@ -2,7 +2,7 @@
 
 use crate::book::Book;
 use crate::configuration::Configuration;
-use crate::machine::{self, Answer};
+use crate::machine::Answer;
 use crate::reduced::Chase;
 use crate::table::Table;
 use crate::transition::System;
@@ -16,10 +16,7 @@ pub fn replay(
     victim: usize,
     calls: &[u8],
 ) -> Result<u32, String> {
-    let system = System {
-        table,
-        advance: machine::advance,
-    };
+    let system = System::of_machine(table);
     let chase = Chase {
         table,
         operation,

@@ -78,9 +78,11 @@ pub fn script(name: &str, table: Option<Vec<u8>>, input: &str) -> Script {
     }
 }
 
+/// A set and a clear that move the state, each made a second time, when it doesn't.
 fn every_step_of_one_task() -> String {
-    let steps: String = (0..18).map(|_| "s 0\nm\n").collect();
-    format!("n 1\nb 0 1\nm\n{steps}")
+    let steps = "s 0\nm\n".repeat(18);
+    let operations = [1, 1, 2, 2].map(|operation| format!("b 0 {operation}\nm\n{steps}"));
+    format!("n 1\n{}", operations.concat())
 }
 
 const WRONG_LINES: [&str; 28] = [
@@ -282,6 +284,8 @@ impl<'a> Writer<'a> {
 mod tests {
     use super::*;
     use crate::bench::output;
+    use crate::trace::served_lines;
+    use crate::trace_event::Event;
 
     #[test]
     fn the_seed_decides_a_script() {
@@ -314,5 +318,34 @@ mod tests {
             assert!(count_with(&outputs, &format!("n {tasks} ")) >= 10);
             assert!(count_with(&outputs, &format!("r {} ", tasks - 1)) >= 10);
         }
+    }
+
+    /// How many operations of a script end by kind: reading or changing, and whether the state moved.
+    fn count_ends(script: &Script) -> [[usize; 2]; 2] {
+        let lines = served_lines(script.table.as_deref().unwrap_or(&[]), &script.input);
+        let mut changes = [false; 8];
+        let mut ends = [[0; 2]; 2];
+        for event in lines.unwrap_or_default().iter().flat_map(|line| &line.events) {
+            match *event {
+                Event::Begun { task, changing, .. } => changes[task] = changing,
+                Event::Ended { task, moved, .. } => {
+                    ends[usize::from(changes[task])][usize::from(moved)] += 1;
+                }
+                _ => {}
+            }
+        }
+        ends
+    }
+
+    #[test]
+    fn changing_operations_end_with_a_yes_and_with_a_no() {
+        let ends: Vec<_> = (0..400).map(|seed| count_ends(&random_script(seed))).collect();
+        let scripts_with = |changing: usize, moved: usize| {
+            let with = |ends: &&[[usize; 2]; 2]| ends[changing][moved] > 0;
+            ends.iter().filter(with).count()
+        };
+        assert!(scripts_with(1, 1) >= 100);
+        assert!(scripts_with(1, 0) >= 100);
+        assert_eq!(scripts_with(0, 1), 0);
     }
 }

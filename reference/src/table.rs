@@ -1,6 +1,7 @@
 //! The object table: a file of free text, entries and a trailer that points back.
 
 use crate::refusal::Refusal;
+use crate::reply::Reply;
 
 pub const MARK: &[u8; 6] = b"DRIVE1";
 pub const TRAILER_BYTES: usize = 16;
@@ -64,6 +65,19 @@ impl<'a> Table<'a> {
         }
     }
 
+    /// What an operation answers that is made in a state.
+    pub fn reply(&self, state: usize, operation: usize) -> Reply {
+        Reply {
+            response: self.entry(state, operation).response,
+            moved: self.leads_away(state, operation),
+        }
+    }
+
+    /// The entry's next state is another than its own.
+    fn leads_away(&self, state: usize, operation: usize) -> bool {
+        usize::from(self.entry(state, operation).next) != state
+    }
+
     pub fn test_entry(&self, state: usize, operation: usize) -> Result<(), Refusal> {
         if usize::from(self.entry(state, operation).next) < self.states {
             Ok(())
@@ -82,7 +96,7 @@ impl<'a> Table<'a> {
 
     /// An operation is changing if in some state of the table its next state is another one.
     pub fn is_changing(&self, operation: usize) -> bool {
-        (0..self.states).any(|state| usize::from(self.entry(state, operation).next) != state)
+        (0..self.states).any(|state| self.leads_away(state, operation))
     }
 }
 
@@ -271,6 +285,29 @@ mod tests {
         let table = Table::check(TableFile::flag().kept()).unwrap();
         assert_eq!(table.entry(0, 1), Entry { next: 1, response: 0 });
         assert_eq!(table.entry(1, 2), Entry { next: 0, response: 1 });
+    }
+
+    #[test]
+    fn an_entry_says_whether_the_state_moves() {
+        let table = Table::check(TableFile::flag().kept()).unwrap();
+        let moved = |state: usize| [0, 1, 2].map(|operation| table.reply(state, operation).moved);
+        assert_eq!(moved(0), [false, true, false]);
+        assert_eq!(moved(1), [false, false, true]);
+        assert_eq!(
+            [0, 1, 2].map(|operation| table.reply(1, operation).response),
+            [1; 3]
+        );
+    }
+
+    /// The response and the start state say nothing of it.
+    #[test]
+    fn an_entry_moves_by_its_own_state_alone() {
+        let file = TableFile::plain(3, 1, 1, &[(1, 0), (1, 2), (2, 1)]);
+        let table = Table::check(file.kept()).unwrap();
+        assert_eq!(
+            [0, 1, 2].map(|state| table.reply(state, 0).moved),
+            [true, false, false]
+        );
     }
 
     #[test]

@@ -133,21 +133,21 @@ mod tests {
   task 0  step   3  LoadHead          read   head            0000000000000000                        state 0
   task 0  step   4  LinkHead          swap   head            0000000000000000 -> 0000000000000001    state 0, marked by 0
   task 0  step   5  LoadPriority      read   announcement 0  0000000000010100                        operation 1
-  task 0  step   6  Apply 0           swap   head            0000000000000001 -> 0000000001000100    state 1, response 0 for task 0
+  task 0  step   6  Apply 0           swap   head            0000000000000001 -> 0000000011000100    state 1, response 0, moved, for task 0
   task 0  step   7  Poll              read   announcement 0  0000000000010100                        operation 1
-  task 0  step   8  LoadHead          read   head            0000000001000100                        state 1, response 0 for task 0
-  task 0  step   9  LinkHead          swap   head            0000000001000100 -> 0000000001000101    state 1, response 0 for task 0, marked by 0
+  task 0  step   8  LoadHead          read   head            0000000011000100                        state 1, response 0, moved, for task 0
+  task 0  step   9  LinkHead          swap   head            0000000011000100 -> 0000000011000101    state 1, response 0, moved, for task 0, marked by 0
   task 0  step  10  LoadHelped 0      read   announcement 0  0000000000010100                        operation 1
   task 0  step  11  LinkHelped 0      swap   announcement 0  0000000000010100 -> 0000000000010101    operation 1, marked by 0
-  task 0  step  12  Validate 0        read   head            0000000001000101                        state 1, response 0 for task 0, marked by 0
-  task 0  step  13  HandOver 0        swap   announcement 0  0000000000010101 -> 0000000000000200    response 0
-  task 0  step  14  ClearHead         swap   head            0000000001000101 -> 0000000000000100    state 1
-  task 0  step  15  Poll              read   announcement 0  0000000000000200                        response 0
+  task 0  step  12  Validate 0        read   head            0000000011000101                        state 1, response 0, moved, for task 0, marked by 0
+  task 0  step  13  HandOver 0        swap   announcement 0  0000000000010101 -> 0000000001000200    response 0, moved
+  task 0  step  14  ClearHead         swap   head            0000000011000101 -> 0000000000000100    state 1
+  task 0  step  15  Poll              read   announcement 0  0000000001000200                        response 0, moved
   task 0  step  16  LoadExit          read   head            0000000000000100                        state 1
-  task 0  step  17  Retract           write  announcement 0  0000000000000200 -> 0000000000000000    empty
-  task 0 ends operation 1: response 0, own steps 17
+  task 0  step  17  Retract           write  announcement 0  0000000001000200 -> 0000000000000000    empty
+  task 0 ends operation 1: response 0, moved, own steps 17
   at rest in state 1
-< r 0 0
+< r 0 0 1
 ";
 
     /// The next four lines of the flag listing.
@@ -155,8 +155,8 @@ mod tests {
   task 1 begins operation 0, reading
 > s 1
   task 1  step   1  ReadOnly          read   head            0000000000000100                        state 1
-  task 1 ends operation 0: response 1, own steps 1
-< r 1 1
+  task 1 ends operation 0: response 1, not moved, own steps 1
+< r 1 1 0
 > b 1 2
   task 1 begins operation 2, changing
 > m
@@ -169,10 +169,10 @@ mod tests {
 
     /// How the last line but one of the flag listing ends, and the last one.
     const TASK_1_CLEARS: &str = "
-  task 1  step  17  Retract           write  announcement 1  0000000000010200 -> 0000000000000000    empty
-  task 1 ends operation 2: response 1, own steps 17
+  task 1  step  17  Retract           write  announcement 1  0000000001010200 -> 0000000000000000    empty
+  task 1 ends operation 2: response 1, moved, own steps 17
   at rest in state 0
-< r 1 1
+< r 1 1 1
 > m
   head            0000000000000000  state 0
   announcement 0  0000000000000000  empty
@@ -190,7 +190,7 @@ mod tests {
         let clears: Vec<&str> = rest.lines().collect();
         assert_eq!((clears.len(), clears[0]), (17, "> d 1"));
         let applied = "  task 1  step   6  Apply 1           swap   head            \
-                       0000000000000102 -> 0000000002010000    state 0, response 1 for task 1";
+                       0000000000000102 -> 0000000012010000    state 0, response 1, moved, for task 1";
         assert_eq!(clears[6], applied);
         assert_eq!(on_flag(LISTING.trim_end().as_bytes()), text);
     }
@@ -211,9 +211,9 @@ mod tests {
         let both_ended = last_on_flag(&format!("{two_changing}d 0\n"));
         assert!(both_ended.contains(rest));
         let one_reading = "n 2\nb 0 0\nb 1 1\nd 1\n";
-        assert!(last_on_flag(one_reading).ends_with("own steps 17\n  at rest in state 1\n< r 1 0\n"));
+        assert!(last_on_flag(one_reading).ends_with("own steps 17\n  at rest in state 1\n< r 1 0 1\n"));
         let read = last_on_flag(&format!("{one_reading}s 0\n"));
-        assert!(read.ends_with("ends operation 0: response 1, own steps 1\n< r 0 1\n"));
+        assert!(read.ends_with("ends operation 0: response 1, not moved, own steps 1\n< r 0 1 0\n"));
     }
 
     #[test]

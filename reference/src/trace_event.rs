@@ -1,9 +1,10 @@
 //! What happens while a line of the bench is served, and the lines of text that say it.
 
-use crate::cells::{count_marks, has_mark, Announcement, Head, MOST_TASKS};
+use crate::cells::{count_marks, has_mark, Announcement, Head, Holder, MOST_TASKS};
 use crate::machine::{Access, Action, Outcome, HEAD_CELL};
 use crate::phase::Phase;
 use crate::refusal::Refusal;
+use crate::reply::moved_words;
 
 #[derive(Clone, Debug, PartialEq, Eq)]
 pub enum Event {
@@ -24,6 +25,7 @@ pub enum Event {
         task: usize,
         operation: u16,
         response: u16,
+        moved: bool,
         steps: u32,
     },
     /// No changing operation is pending any more; `state` is the one in the head.
@@ -73,8 +75,12 @@ impl Event {
                 task,
                 operation,
                 response,
+                moved,
                 steps,
-            } => format!("task {task} ends operation {operation}: response {response}, own steps {steps}"),
+            } => {
+                let reply = reply_words(*response, *moved);
+                format!("task {task} ends operation {operation}: {reply}, own steps {steps}")
+            }
             Event::AtRest { state } => format!("at rest in state {state}"),
             Event::Refused(refusal) => refused(*refusal),
         };
@@ -159,10 +165,12 @@ fn head_content(word: u64) -> String {
     let Head { state, holder } = Head::decode(word);
     match holder {
         None => format!("state {state}"),
-        Some(holder) => format!(
-            "state {state}, response {} for task {}",
-            holder.response, holder.task
-        ),
+        Some(Holder { task, reply }) => {
+            format!(
+                "state {state}, {}, for task {task}",
+                reply_words(reply.response, reply.moved)
+            )
+        }
     }
 }
 
@@ -170,8 +178,12 @@ fn announcement_content(word: u64) -> String {
     match Announcement::decode(word) {
         Announcement::Empty => "empty".to_string(),
         Announcement::Operation(number) => format!("operation {number}"),
-        Announcement::Response(response) => format!("response {response}"),
+        Announcement::Response(reply) => reply_words(reply.response, reply.moved),
     }
+}
+
+fn reply_words(response: u16, moved: bool) -> String {
+    format!("response {response}, {}", moved_words(moved))
 }
 
 /// The refusal's number and its sentence.
@@ -229,15 +241,19 @@ mod tests {
     fn words_mean_what_their_fields_hold() {
         assert_eq!(meaning(0, 0), "state 0");
         assert_eq!(meaning(0, 0xff81), "state 255, marked by 0 7");
-        assert_eq!(meaning(0, 0x08ff_0100), "state 1, response 255 for task 7");
         assert_eq!(
-            meaning(0, 0x0100_0206),
-            "state 2, response 0 for task 0, marked by 1 2"
+            meaning(0, 0x08ff_0100),
+            "state 1, response 255, not moved, for task 7"
+        );
+        assert_eq!(
+            meaning(0, 0x1100_0206),
+            "state 2, response 0, moved, for task 0, marked by 1 2"
         );
         assert_eq!(meaning(1, 0), "empty");
         assert_eq!(meaning(1, 0x20), "empty, marked by 5");
         assert_eq!(meaning(8, 0x001f_0100), "operation 31");
-        assert_eq!(meaning(8, 0x0007_0203), "response 7, marked by 0 1");
+        assert_eq!(meaning(8, 0x0007_0203), "response 7, not moved, marked by 0 1");
+        assert_eq!(meaning(8, 0x0100_0200), "response 0, moved");
     }
 
     fn swap_of_head(number: u32, before: u64, swapped: bool) -> Step {

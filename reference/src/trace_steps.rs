@@ -2,6 +2,7 @@
 
 use crate::configuration::{Call, Configuration};
 use crate::machine::{self, Answer};
+use crate::rules::Rules;
 use crate::table::Table;
 use crate::trace_event::{Event, Step};
 
@@ -26,15 +27,21 @@ pub fn steps_between(
 /// One step and what ends with it.
 fn step(table: &Table, task: usize, point: &mut Configuration) -> Vec<Event> {
     let before = *point;
-    let answer = point.make(machine::advance, table, Call::Step { task });
+    let answer = point.make(Rules::MACHINE, table, Call::Step { task });
     let answer = answer.expect("the bench has made this step");
     let mut events = vec![Event::Stepped(next_step(table, task, before))];
-    if let Some(Answer::Ended { response, steps }) = answer {
+    if let Some(Answer::Ended {
+        response,
+        moved,
+        steps,
+    }) = answer
+    {
         let operation = before.record(task).operation;
         events.push(Event::Ended {
             task,
             operation,
             response,
+            moved,
             steps,
         });
         if !before.is_at_rest(table) && point.is_at_rest(table) {

@@ -1,25 +1,34 @@
-//! What is checked at every transition: answer, invariant, book, rest image, potential, and which call empties an
-//! announcement.
+//! What is checked at every transition: answer, invariant, book, what the cells carry, rest image, potential, and which
+//! call empties an announcement.
 
 use crate::book::{entered_before, Book};
-use crate::calls::Advance;
 use crate::ceiling::ceiling;
 use crate::configuration::{Call, CallAnswer, Configuration};
 use crate::invariant;
 use crate::machine::Answer;
 use crate::potential::{at_begin, potential};
 use crate::refusal::Refusal;
+use crate::rules::Rules;
 use crate::table::Table;
 
 /// An object and the rules that its tasks follow.
 #[derive(Clone, Copy)]
 pub struct System<'a> {
     pub table: &'a Table<'a>,
-    pub advance: Advance,
+    pub rules: Rules,
 }
 
 /// The point after a call and the call's answer, or the rule that it breaks.
 pub type Checked = Result<(Configuration, CallAnswer), String>;
+
+impl<'a> System<'a> {
+    pub fn of_machine(table: &'a Table<'a>) -> System<'a> {
+        System {
+            table,
+            rules: Rules::MACHINE,
+        }
+    }
+}
 
 impl System<'_> {
     /// Makes a call and checks all that must hold; the book is carried along.
@@ -28,6 +37,7 @@ impl System<'_> {
         made.check_emptied_exactly_if_ended()?;
         invariant::check(self.table, &made.after)?;
         made.check_service(book)?;
+        book.check_carried(&made.after)?;
         book.agrees_with(&made.after)?;
         made.check_potentials()?;
         Ok((made.after, made.answer))
@@ -35,7 +45,7 @@ impl System<'_> {
 
     pub fn make<'a>(&'a self, before: &'a Configuration, call: Call) -> Transition<'a> {
         let mut after = *before;
-        let answer = after.make(self.advance, self.table, call);
+        let answer = after.make(self.rules, self.table, call);
         Transition {
             table: self.table,
             before,
@@ -155,6 +165,7 @@ mod tests {
     const RUNNING: CallAnswer = Ok(Some(Answer::Running));
     const ENDED: CallAnswer = Ok(Some(Answer::Ended {
         response: 1,
+        moved: true,
         steps: 17,
     }));
 

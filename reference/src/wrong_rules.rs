@@ -1,29 +1,17 @@
 //! Wrong builds of the machine. The explorer must find each of them, and for the reason that is stated here.
 
-use crate::calls::Advance;
 use crate::cells::has_mark;
-use crate::explore::Graph;
 use crate::machine::{self, Answer, Outcome};
-use crate::objects::explored_objects;
 use crate::phase::Phase;
 use crate::record::Record;
+use crate::rules::Advance;
 use crate::table::Table;
-use crate::transition::System;
+use crate::wrong_builds::{self, advancing};
 
 type Step = (Record, Answer);
 
-/// What the explorer says of the rules, over the flag object and two tasks.
-fn finding(advance: Advance) -> String {
-    let (_, table) = &explored_objects()[0];
-    match Graph::explore(System { table, advance }, 2) {
-        Ok(_) => "nothing".to_string(),
-        Err(message) => message,
-    }
-}
-
 fn assert_found(advance: Advance, reason: &str) {
-    let found = finding(advance);
-    assert!(found.starts_with(reason), "{found}");
+    wrong_builds::assert_found(advancing(advance), 2, reason);
 }
 
 /// The right step, its new phase replaced.
@@ -113,8 +101,13 @@ fn an_invented_count() {
         let (record, answer) = machine::advance(table, tasks, task, old, outcome);
         let invented = match answer {
             Answer::Running => Answer::Running,
-            Answer::Ended { response, steps } => Answer::Ended {
+            Answer::Ended {
                 response,
+                moved,
+                steps,
+            } => Answer::Ended {
+                response,
+                moved,
                 steps: steps + 1,
             },
         };
@@ -129,7 +122,11 @@ fn a_constant_response() {
         let (record, answer) = machine::advance(table, tasks, task, old, outcome);
         let constant = match answer {
             Answer::Running => Answer::Running,
-            Answer::Ended { steps, .. } => Answer::Ended { response: 0, steps },
+            Answer::Ended { moved, steps, .. } => Answer::Ended {
+                response: 0,
+                moved,
+                steps,
+            },
         };
         (record, constant)
     }
@@ -145,6 +142,7 @@ fn a_changing_operation_that_ends_in_its_first_step() {
                 Record::idle(record.priority),
                 Answer::Ended {
                     response: 0,
+                    moved: true,
                     steps: 1,
                 },
             ),

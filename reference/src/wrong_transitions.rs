@@ -1,8 +1,6 @@
-//! Machines that differ from the right one in one transition. The exploration of two tasks must find each of them, and
-//! for the reason that is stated here; random runs of three, where two tasks can't show it.
+//! Machines that differ from the right one in one transition. Each must be found, and for the reason that is stated here.
 
 use crate::book::{Book, Status};
-use crate::calls::Advance;
 use crate::cells::{has_mark, mark_of, Announcement, MOST_TASKS};
 use crate::configuration::{Call, Configuration};
 use crate::explore::Graph;
@@ -13,28 +11,11 @@ use crate::objects::explored_objects;
 use crate::phase::Phase;
 use crate::random_runs;
 use crate::record::Record;
+use crate::reply::Reply;
+use crate::rules::{Advance, Rules};
 use crate::table::Table;
 use crate::transition::{Checked, System};
-
-/// How many schedules of three tasks are tried, and how long they are.
-const SCHEDULES: u64 = 4;
-const CALLS: usize = 100_000;
-
-/// What is found about the rules with so many tasks, over the flag object.
-fn finding(advance: Advance, tasks: usize) -> String {
-    let (_, table) = &explored_objects()[0];
-    let system = System { table, advance };
-    let found = match tasks {
-        2 => Graph::explore(system, tasks).err(),
-        _ => (0..SCHEDULES).find_map(|seed| random_runs::run(system, tasks, CALLS, seed).err()),
-    };
-    found.unwrap_or_else(|| "nothing".to_string())
-}
-
-fn assert_found(advance: Advance, tasks: usize, reason: &str) {
-    let found = finding(advance, tasks);
-    assert!(found.starts_with(reason), "{found}");
-}
+use crate::wrong_builds::{advancing, assert_found, explored_object, finding};
 
 /// The right machine, but for the record that it leaves. A rule is given the task, its phase, its record with this step
 /// counted, what the access gave back, and the right record.
@@ -55,7 +36,7 @@ macro_rules! leaving {
             };
             (rule(task, old.known_phase(), counted, outcome, right), answer)
         }
-        wrong as Advance
+        advancing(wrong)
     }};
 }
 
@@ -115,9 +96,9 @@ fn an_exit_that_retracts_though_its_clear_or_its_link_failed() {
 #[test]
 fn a_response_applied_as_an_operation() {
     let wrong = leaving!(|_, phase, own, outcome, right| match (phase, content(outcome)) {
-        (Phase::LoadPriority, Announcement::Response(response)) => own
+        (Phase::LoadPriority, Announcement::Response(reply)) => own
             .with_head_in(Phase::Apply(usize::from(own.priority)))
-            .with_payload(u32::from(response)),
+            .with_payload(u32::from(reply.response)),
         _ => right,
     });
     assert_found(wrong, 2, "invariant: T5");
@@ -161,7 +142,7 @@ fn a_priority_that_goes_on_by_two_tasks() {
         };
         (Record { priority, ..right }, answer)
     };
-    assert_found(wrong, 2, "potential");
+    assert_found(advancing(wrong), 2, "potential");
 }
 
 #[test]
@@ -198,6 +179,11 @@ fn a_count_that_goes_on_after_the_end() {
 
 /// The exit empties the announcement twice and answers running the first time. The own mark in the saved announcement,
 /// which Retract doesn't use, says that this was done.
+const EMPTYING_TWICE: Rules = Rules {
+    advance: emptying_twice,
+    ..Rules::MACHINE
+};
+
 fn emptying_twice(
     table: &Table,
     tasks: usize,
@@ -218,15 +204,15 @@ fn emptying_twice(
 
 #[test]
 fn an_announcement_emptied_twice() {
-    assert_found(emptying_twice, 2, "emptied, not ended");
+    assert_found(EMPTYING_TWICE, 2, "emptied, not ended");
 }
 
 /// The potential takes a task whose announcement is empty for one that waits.
 #[test]
 fn an_announcement_emptied_twice_raises_the_potential() {
-    let (_, table) = &explored_objects()[0];
-    let advance = emptying_twice;
-    let system = System { table, advance };
+    let table = &explored_object("flag");
+    let rules = EMPTYING_TWICE;
+    let system = System { table, rules };
     let make = |before: &Configuration, call| {
         let made = system.make(before, call);
         made.check_potentials()?;
@@ -255,10 +241,7 @@ fn book_of(point: &Configuration) -> Book {
     let mut book = Book::of(point);
     for (status, record) in book.tasks.iter_mut().zip(point.row()) {
         if record.known_phase() == Phase::Retract {
-            *status = Status::Done {
-                response: record.payload as u16,
-                count: record.steps,
-            };
+            *status = Status::done(Reply::of_payload(record.payload), record.steps);
         }
     }
     book
@@ -267,9 +250,9 @@ fn book_of(point: &Configuration) -> Book {
 /// All schedules of one and two tasks; the longest operation has one own step more than the right one.
 #[test]
 fn an_announcement_emptied_twice_breaks_no_other_clause_than_t1() {
-    let (_, table) = &explored_objects()[0];
-    let advance = emptying_twice;
-    let system = System { table, advance };
+    let table = &explored_object("flag");
+    let rules = EMPTYING_TWICE;
+    let system = System { table, rules };
     let explore_without = |clause, tasks| {
         let make = |before: &Configuration, call| {
             let mut book = book_of(before);
@@ -290,9 +273,9 @@ fn an_announcement_emptied_twice_breaks_no_other_clause_than_t1() {
 /// Long schedules of up to eight tasks, with a whole book and a check of its order.
 #[test]
 fn an_announcement_emptied_twice_keeps_book_order_rest_image_count_and_ceiling() {
-    let advance = emptying_twice;
+    let rules = EMPTYING_TWICE;
     for (_, table) in &explored_objects() {
-        let system = System { table, advance };
+        let system = System { table, rules };
         let make = |before: &Configuration, call, book: &mut Book| {
             make_without(Some("T1"), system, before, call, book)
         };

@@ -1,0 +1,36 @@
+//! The rules that tasks follow: those of the machine, or wrong ones, which the explorer must find.
+
+use crate::calls::step_by;
+use crate::machine::{self, Access, Answer, Outcome};
+use crate::record::Record;
+use crate::refusal::Refusal;
+use crate::table::Table;
+
+/// How the access follows from the record.
+pub type Plan = fn(&Table, usize, &Record) -> Access;
+
+/// How the next record follows from what the access gave back.
+pub type Advance = fn(&Table, usize, usize, &Record, Outcome) -> (Record, Answer);
+
+#[derive(Clone, Copy)]
+pub struct Rules {
+    pub plan: Plan,
+    pub advance: Advance,
+}
+
+impl Rules {
+    pub const MACHINE: Rules = Rules {
+        plan: machine::plan,
+        advance: machine::advance,
+    };
+
+    pub fn step(
+        self,
+        table: &Table,
+        cells: &mut [u64],
+        row: &mut [Record],
+        task: usize,
+    ) -> Result<Answer, Refusal> {
+        step_by(self.plan, self.advance, table, cells, row, task)
+    }
+}
