@@ -17,7 +17,7 @@
  * and allocates nothing; start calls memset, and no call anything else.
  *
  * Every call answers with one word, which the drive_answer functions below read. Byte 0, the lowest, is 0 if the call
- * is accepted, else the number of the first cause that holds; then everything lent is left as it was. Bits 1 to 7 of
+ * is accepted, else the number of the first cause that holds; then everything lent is left as it was. Bits 2 to 7 of
  * byte 1 are reserved, and no reader looks at them.
  */
 #ifndef DRIVE_OBJECT_H
@@ -59,7 +59,7 @@ enum drive_refusal {
 typedef struct drive_task {
     uint64_t head;         /* a saved head */
     uint64_t announcement; /* a saved announcement */
-    uint32_t payload;      /* an operation that is to be applied, or the own response */
+    uint32_t payload;      /* an operation that is to be applied, or the own response and whether the state moved */
     uint32_t steps;        /* the own steps since begin */
     uint16_t operation;    /* the own operation */
     uint16_t priority;     /* the task that is helped first */
@@ -95,9 +95,9 @@ uint64_t drive_begin(const uint8_t *file, size_t file_length, drive_task *row, s
 /*
  * Makes one step for a task: one read, write or compare-and-swap on one cell. Tests 1, 2, 3, 5, 6, 7, 11, 10, 12,
  * then 4 on the one entry that it uses, if it uses one. Writes the task's record and at most the one touched cell,
- * and leaves every other record and cell. Answers running, or ended with the response and the number of own steps
- * since begin, this one counted, which is at most the ceiling. Its cost is bounded for all tables and numbers of
- * tasks.
+ * and leaves every other record and cell. Answers running, or ended with the response, whether the state moved, and
+ * the number of own steps since begin, this one counted, which is at most the ceiling. Its cost is bounded for all
+ * tables and numbers of tasks.
  */
 uint64_t drive_step(const uint8_t *file, size_t file_length, uint64_t *cells, size_t cell_count, drive_task *row,
                     size_t task_count, size_t task);
@@ -130,6 +130,10 @@ static inline bool drive_answer_ended(uint64_t answer) { return answer >> 8 & 1;
 
 /* Of a step that ended an operation: the response. */
 static inline uint16_t drive_answer_response(uint64_t answer) { return (uint16_t)(answer >> 16); }
+
+/* Of a step that ended an operation: whether the state moved, which says that the entry used has a next state other than
+ * its own. */
+static inline bool drive_answer_moved(uint64_t answer) { return answer >> 9 & 1; }
 
 /* Of a step that ended an operation: the own steps since begin. */
 static inline uint32_t drive_answer_steps(uint64_t answer) { return (uint32_t)(answer >> 32); }

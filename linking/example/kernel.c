@@ -83,17 +83,32 @@ static void start(struct kernel *kernel) {
            (unsigned)drive_answer_operations(checked), kernel->ceiling);
 }
 
+/* The state that an operation of the flag leads to. */
+static unsigned next_state(size_t operation, unsigned state) {
+    switch (operation) {
+    case SET:
+        return 1;
+    case CLEAR:
+        return 0;
+    default:
+        return state;
+    }
+}
+
 /* The flag is raised by a set that answers 0 and lowered by a clear that answers 1. */
 static void note_end(struct kernel *kernel, size_t task, size_t operation, uint64_t answer) {
     unsigned response = drive_answer_response(answer);
+    bool moved = drive_answer_moved(answer);
     uint32_t steps = drive_answer_steps(answer);
+    expect(moved == (next_state(operation, response) != response), "the answer is wrong about whether the flag moved");
     expect(steps == kernel->own_steps[task], "the answered count is not the number of steps");
     expect(steps <= kernel->ceiling, "an operation passes the ceiling");
     kernel->pending[task] = false;
     kernel->ended[task] += 1;
     kernel->raised += operation == SET && response == 0;
     kernel->lowered += operation == CLEAR && response == 1;
-    printf("task %zu operation %zu answers %u, own steps %" PRIu32 "\n", task, operation, response, steps);
+    printf("task %zu operation %zu answers %u, %s, own steps %" PRIu32 "\n", task, operation, response,
+           moved ? "moved" : "not moved", steps);
 }
 
 static void note_stop(struct kernel *kernel, size_t task, size_t operation) {

@@ -10,17 +10,20 @@
 #error "the asserts are the test"
 #endif
 
+/* Bits 0 and 1 of byte 1 are read each for itself, whatever the other bytes are. */
 static void read_step(uint64_t reserved) {
-    uint64_t running = reserved;
-    assert(drive_answer_refusal(running) == 0);
-    assert(!drive_answer_ended(running));
-    assert(!drive_answer_ended(UINT64_C(0x12345678abcd0000) | reserved));
-    assert(drive_answer_ended(0x100 | reserved));
-    uint64_t ended = UINT64_C(0x12345678abcd0100) | reserved;
-    assert(drive_answer_refusal(ended) == 0);
-    assert(drive_answer_ended(ended));
-    assert(drive_answer_response(ended) == 0xabcd);
-    assert(drive_answer_steps(ended) == 0x12345678);
+    for (unsigned bits = 0; bits < 1 << 2; bits++) {
+        uint64_t zeros = (uint64_t)bits << 8 | reserved;
+        uint64_t answer = UINT64_C(0x12345678abcd0000) | zeros;
+        assert(drive_answer_refusal(zeros) == 0);
+        assert(drive_answer_ended(zeros) == (bits & 1));
+        assert(drive_answer_moved(zeros) == bits >> 1);
+        assert(drive_answer_refusal(answer) == 0);
+        assert(drive_answer_ended(answer) == (bits & 1));
+        assert(drive_answer_moved(answer) == bits >> 1);
+        assert(drive_answer_response(answer) == 0xabcd);
+        assert(drive_answer_steps(answer) == 0x12345678);
+    }
 }
 
 static void read_check(uint64_t reserved) {
@@ -41,12 +44,13 @@ static void read_refusals(uint64_t reserved) {
     for (unsigned number = 1; number <= UINT8_MAX; number++) {
         assert(drive_answer_refusal(number | reserved) == number);
         assert(!drive_answer_ended(number | reserved));
+        assert(!drive_answer_moved(number | reserved));
     }
 }
 
 int main(void) {
-    for (uint64_t bits = 0; bits < 1 << 7; bits++) {
-        uint64_t reserved = bits << 9;
+    for (uint64_t bits = 0; bits < 1 << 6; bits++) {
+        uint64_t reserved = bits << 10;
         read_step(reserved);
         read_check(reserved);
         read_ceiling(reserved);

@@ -68,6 +68,15 @@ fn expect(fact: bool, what: &str) -> Result<(), String> {
     }
 }
 
+/// The state that an operation of the flag leads to.
+fn next_state(operation: usize, state: u16) -> u16 {
+    match operation {
+        SET => 1,
+        CLEAR => 0,
+        _ => state,
+    }
+}
+
 impl Kernel {
     fn start(file: Vec<u8>) -> Result<Kernel, String> {
         let shape = check(&file).map_err(refused)?;
@@ -113,13 +122,19 @@ impl Kernel {
         let own_steps = self.own_steps[task].unwrap_or(0) + 1;
         self.own_steps[task] = Some(own_steps);
         expect(own_steps <= self.ceiling, "an operation passes the ceiling")?;
-        if let Progress::Ended { response, steps } = progress {
+        if let Progress::Ended {
+            response,
+            moved,
+            steps,
+        } = progress
+        {
             expect(
                 steps == own_steps,
                 "the answered count is not the number of steps",
             )?;
-            self.note_end(task, operation, response);
-            println!("task {task} operation {operation} answers {response}, own steps {steps}");
+            self.note_end(task, operation, response, moved)?;
+            let moved = if moved { "moved" } else { "not moved" };
+            println!("task {task} operation {operation} answers {response}, {moved}, own steps {steps}");
         }
         let in_last = self.ended[task] + 1 == program.len();
         let marked = self.cells[0] >> task & 1 == 1;
@@ -132,11 +147,14 @@ impl Kernel {
     }
 
     /// The flag is raised by a set that answers 0 and lowered by a clear that answers 1.
-    fn note_end(&mut self, task: usize, operation: usize, response: u16) {
+    fn note_end(&mut self, task: usize, operation: usize, response: u16, moved: bool) -> Result<(), String> {
+        let right = moved == (next_state(operation, response) != response);
+        expect(right, "the answer is wrong about whether the flag moved")?;
         self.own_steps[task] = None;
         self.ended[task] += 1;
         self.raised += u64::from(operation == SET && response == 0);
         self.lowered += u64::from(operation == CLEAR && response == 1);
+        Ok(())
     }
 
     /// How often the stopped set was applied: the flag was raised as often as it was lowered, and once more if it is

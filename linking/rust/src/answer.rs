@@ -1,4 +1,4 @@
-//! What the calls answer, and how an answer's word is read: byte 0, the lowest, is the refusal's number or 0. Bits 1 to 7
+//! What the calls answer, and how an answer's word is read: byte 0, the lowest, is the refusal's number or 0. Bits 2 to 7
 //! of byte 1 are reserved, and no reader looks at them.
 
 use core::fmt;
@@ -84,6 +84,8 @@ pub enum Progress {
     Ended {
         /// The table's response.
         response: u16,
+        /// Whether the state moved, which says that the table's entry used has a next state other than its own.
+        moved: bool,
         /// The own steps since begin, the ending one counted; at most the ceiling.
         steps: u32,
     },
@@ -108,13 +110,15 @@ pub fn shape(word: u64) -> Result<Shape, Refusal> {
     })
 }
 
-/// Bit 0 of byte 1 is 1 if the operation has ended; then bytes 2 and 3 are the response, and 4 to 7 the own steps.
+/// Bit 0 of byte 1 is 1 if the operation has ended; then bit 1 is 1 if the state moved, bytes 2 and 3 are the response,
+/// and 4 to 7 the own steps.
 #[inline]
 pub fn progress(word: u64) -> Result<Progress, Refusal> {
     accepted(word).map(|word| match word >> 8 & 1 {
         0 => Progress::Running,
         _ => Progress::Ended {
             response: (word >> 16) as u16,
+            moved: word >> 9 & 1 == 1,
             steps: (word >> 32) as u32,
         },
     })
@@ -136,27 +140,32 @@ mod tests {
 
     /// The word with each value of the reserved bits.
     fn with_reserved(word: u64) -> impl Iterator<Item = u64> {
-        (0..1 << 7).map(move |bits: u64| word | bits << 9)
+        (0..1 << 6).map(move |bits: u64| word | bits << 10)
     }
 
     #[test]
     fn running_steps_are_read_without_the_reserved_bits() {
-        for word in with_reserved(0).chain(with_reserved(0x1234_5678_abcd_0000)) {
-            assert_eq!(progress(word), Ok(Progress::Running));
+        for running in [0, 0x200, 0x1234_5678_abcd_0000, 0x1234_5678_abcd_0200] {
+            for word in with_reserved(running) {
+                assert_eq!(progress(word), Ok(Progress::Running));
+            }
         }
     }
 
     #[test]
     fn ended_steps_are_read_without_the_reserved_bits() {
-        let ended = Progress::Ended {
-            response: 0xabcd,
-            steps: 0x1234_5678,
-        };
-        for word in with_reserved(0x1234_5678_abcd_0100) {
-            assert_eq!(progress(word), Ok(ended));
-        }
-        for word in with_reserved(0x100) {
-            assert!(matches!(progress(word), Ok(Progress::Ended { .. })));
+        for (byte, moved) in [(0x100, false), (0x300, true)] {
+            let ended = |response, steps| Progress::Ended {
+                response,
+                moved,
+                steps,
+            };
+            for word in with_reserved(0x1234_5678_abcd_0000 | byte) {
+                assert_eq!(progress(word), Ok(ended(0xabcd, 0x1234_5678)));
+            }
+            for word in with_reserved(byte) {
+                assert_eq!(progress(word), Ok(ended(0, 0)));
+            }
         }
     }
 

@@ -36,7 +36,7 @@ pub struct Task {
     pub head: u64,
     /// A saved announcement.
     pub announcement: u64,
-    /// An operation that is to be applied, or the own response.
+    /// An operation that is to be applied, or the own response and whether the state moved.
     pub payload: u32,
     /// The own steps since begin.
     pub steps: u32,

@@ -7,34 +7,51 @@ mod random_calls;
 use std::collections::BTreeSet;
 
 use both::{By, Lent};
-use drive_object::Task;
+use drive_object::{Progress, Task};
 use random_calls::random_call;
 use reference::random::Random;
 use reference::table_file::TableFile;
 
 const CALLS: usize = 20_000;
 
-fn flip(word: &mut u64, random: &mut Random) {
-    *word ^= 1 << random.below(64);
-}
+/// The calls of a run in which every bit is tried, and its most tasks.
+const CALLS_WITH_EACH_BIT: usize = 400;
+const TASKS_WITH_EACH_BIT: usize = 3;
 
-fn damage_record(record: &mut Task, random: &mut Random) {
-    match random.below(7) {
-        0 => record.phase ^= 1 << random.below(32),
-        1 => record.phase ^= 1 << random.below(7),
-        2 => record.operation ^= 1 << random.below(16),
-        3 => record.priority ^= 1 << random.below(16),
-        4 => record.payload ^= 1 << random.below(32),
-        5 => record.steps ^= 1 << random.below(32),
-        _ => damage_saved(record, random),
+const BITS_OF_CELL: usize = 64;
+const BITS_OF_RECORD: usize = 256;
+
+/// The first bit and the number of bits of each field of a record; last the bits of the phase in which phases differ.
+const FIELDS: [(usize, usize); 8] = [
+    (0, 64),
+    (64, 64),
+    (128, 32),
+    (160, 32),
+    (192, 16),
+    (208, 16),
+    (224, 32),
+    (224, 7),
+];
+
+/// Phases in which an operation ends.
+const READ_ONLY: u32 = 1;
+const RETRACT: u32 = 12;
+
+fn flip_in_record(record: &mut Task, bit: usize) {
+    match bit {
+        0..64 => record.head ^= 1 << bit,
+        64..128 => record.announcement ^= 1 << (bit - 64),
+        128..160 => record.payload ^= 1 << (bit - 128),
+        160..192 => record.steps ^= 1 << (bit - 160),
+        192..208 => record.operation ^= 1 << (bit - 192),
+        208..224 => record.priority ^= 1 << (bit - 208),
+        _ => record.phase ^= 1 << (bit - 224),
     }
 }
 
-fn damage_saved(record: &mut Task, random: &mut Random) {
-    match random.below(2) {
-        0 => flip(&mut record.head, random),
-        _ => flip(&mut record.announcement, random),
-    }
+/// Bits are numbered from the first cell on.
+fn flip_in_cells(cells: &mut [u64], bit: usize) {
+    cells[bit / BITS_OF_CELL] ^= 1 << (bit % BITS_OF_CELL);
 }
 
 /// Changes one bit of what is lent.
@@ -46,11 +63,12 @@ fn damage(lent: &mut Lent, random: &mut Random) {
         }
         1 => {
             let at = random.below(lent.row.len());
-            damage_record(&mut lent.row[at], random);
+            let (first, bits) = FIELDS[random.below(FIELDS.len())];
+            flip_in_record(&mut lent.row[at], first + random.below(bits));
         }
         _ => {
-            let at = random.below(lent.cells.len());
-            flip(&mut lent.cells[at], random);
+            let bits = BITS_OF_CELL * lent.cells.len();
+            flip_in_cells(&mut lent.cells, random.below(bits));
         }
     }
 }
@@ -89,5 +107,49 @@ fn damaged_runs(by: By) -> BTreeSet<u8> {
 fn damaged_runs_answer_as_the_second_program() {
     for by in By::EACH {
         assert_eq!(damaged_runs(by), BTreeSet::from([0, 1, 2, 3, 4, 9, 10, 11, 12]));
+    }
+}
+
+/// Makes a task's step once for each bit of the cells and of its record, with that bit changed; adds the phase in which an
+/// operation ended, and whether the state moved.
+fn step_with_each_bit(lent: &Lent, task: usize, ends: &mut BTreeSet<(u32, bool)>) {
+    let bits_of_cells = BITS_OF_CELL * lent.cells.len();
+    for bit in 0..bits_of_cells + BITS_OF_RECORD {
+        let mut damaged = lent.clone();
+        match bit.checked_sub(bits_of_cells) {
+            None => flip_in_cells(&mut damaged.cells, bit),
+            Some(bit) => flip_in_record(&mut damaged.row[task], bit),
+        }
+        let phase = damaged.row[task].phase;
+        if let Ok(Progress::Ended { moved, .. }) = damaged.step(task) {
+            ends.insert((phase, moved));
+        }
+    }
+}
+
+/// How operations ended in runs with each bit changed.
+fn runs_with_each_bit(by: By) -> BTreeSet<(u32, bool)> {
+    let flag = TableFile::flag();
+    let mut ends = BTreeSet::new();
+    for tasks in 1..=TASKS_WITH_EACH_BIT {
+        let mut random = Random::new(tasks as u64);
+        let mut lent = Lent::new(by, flag.to_bytes(), tasks);
+        assert_eq!(lent.start(), 0);
+        for _ in 0..CALLS_WITH_EACH_BIT {
+            random_call(&mut lent, usize::from(flag.operations), &mut random);
+            (0..tasks).for_each(|task| step_with_each_bit(&lent, task, &mut ends));
+        }
+    }
+    ends
+}
+
+/// Only its phase says that a record reads, so after a change ReadOnly can answer that the state moved.
+#[test]
+fn steps_with_each_bit_changed_answer_as_the_second_program() {
+    let each = [READ_ONLY, RETRACT].into_iter();
+    let each = each.flat_map(|phase| [(phase, false), (phase, true)]);
+    let each = BTreeSet::from_iter(each);
+    for by in By::EACH {
+        assert_eq!(runs_with_each_bit(by), each);
     }
 }

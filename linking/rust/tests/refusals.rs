@@ -33,10 +33,41 @@ fn files() -> Vec<Vec<u8>> {
     ]
 }
 
+fn pending(phase: u32) -> Task {
+    Task {
+        phase,
+        ..Task::default()
+    }
+}
+
 /// Records in form and out of form, for one task and more.
 fn records() -> Vec<Task> {
+    [plain_records(), records_that_moved()].concat()
+}
+
+/// Records with the moved bit of a saved word, in LinkHead and HandOver, or of the payload, in Retract.
+fn records_that_moved() -> Vec<Task> {
+    let saved = |phase, head, announcement| Task {
+        head,
+        announcement,
+        ..pending(phase)
+    };
+    let leaving = |payload| Task {
+        payload,
+        ..pending(12)
+    };
+    vec![
+        saved(5, 0x1000_0000, 0),
+        saved(5, 0x1100_0000, 0),
+        saved(56, 0, 0x100_0100),
+        saved(56, 0, 0x100_0200),
+        leaving(0x1_0001),
+        leaving(0xffff_0001),
+    ]
+}
+
+fn plain_records() -> Vec<Task> {
     let idle = Task::default();
-    let pending = |phase: u32| Task { phase, ..idle };
     vec![
         idle,
         Task { steps: 1, ..idle },
@@ -72,6 +103,25 @@ fn records() -> Vec<Task> {
 
 const NUMBERS_OF_TASKS: [usize; 5] = [0, 1, 2, 8, 9];
 
+/// Words in form and out of form, as a head and as an announcement.
+const WORDS: [u64; 15] = [
+    0,
+    0x100,
+    0x300,
+    0x1_0100,
+    0x100_0000,
+    0x100_0100,
+    0x100_0200,
+    0x100_0300,
+    0x1ff_0200,
+    0x200_0200,
+    0x1000_0000,
+    0x1100_0000,
+    0x1101_0000,
+    0x2100_0000,
+    1 << 63,
+];
+
 /// Every file with every record in every row, the cells too few, right, too many or out of form.
 fn for_all_lent(by: By, mut serve: impl FnMut(&Lent)) {
     for file in files() {
@@ -80,7 +130,7 @@ fn for_all_lent(by: By, mut serve: impl FnMut(&Lent)) {
                 let mut lent = Lent::new(by, file.clone(), tasks);
                 lent.row.fill(record);
                 for cells in [tasks, tasks + 1, tasks + 2] {
-                    for word in [0, 0x100, 0x300, 0x1_0100, 1 << 63] {
+                    for word in WORDS {
                         lent.cells = vec![word; cells];
                         serve(&lent);
                     }

@@ -20,17 +20,17 @@ fn largest() -> TableFile {
     TableFile::plain(256, 32, 255, &entries).with_text(vec![b' '; 4_096])
 }
 
-/// Makes random calls, some of them refused; how many operations ended.
-fn run(by: By, file: &TableFile, tasks: usize) -> usize {
+/// Makes random calls, some of them refused; how many operations ended without moving the state, and how many moved it.
+fn run(by: By, file: &TableFile, tasks: usize) -> [usize; 2] {
     let mut random = Random::new(tasks as u64);
     let mut lent = Lent::new(by, file.to_bytes(), tasks);
     assert_eq!(lent.start(), 0);
-    let mut ended = 0;
+    let mut ended = [0; 2];
     for _ in 0..CALLS {
-        if let Some(Progress::Ended { .. }) =
+        if let Some(Progress::Ended { moved, .. }) =
             random_call(&mut lent, usize::from(file.operations), &mut random)
         {
-            ended += 1;
+            ended[usize::from(moved)] += 1;
         }
     }
     ended
@@ -40,7 +40,8 @@ fn run(by: By, file: &TableFile, tasks: usize) -> usize {
 fn all_runs(file: &TableFile) {
     for by in By::EACH {
         for tasks in 1..=8 {
-            assert!(run(by, file, tasks) > FEWEST_ENDED);
+            let [unmoved, moved] = run(by, file, tasks);
+            assert!(unmoved > 0 && moved > 0 && unmoved + moved > FEWEST_ENDED);
         }
     }
 }

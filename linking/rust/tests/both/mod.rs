@@ -108,7 +108,15 @@ fn numbered(answer: Result<(), refusal::Refusal>) -> u8 {
 fn progress_of(answer: Answer) -> Progress {
     match answer {
         Answer::Running => Progress::Running,
-        Answer::Ended { response, steps } => Progress::Ended { response, steps },
+        Answer::Ended {
+            response,
+            moved,
+            steps,
+        } => Progress::Ended {
+            response,
+            moved,
+            steps,
+        },
     }
 }
 
