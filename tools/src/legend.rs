@@ -5,16 +5,18 @@ use crate::svg::{Anchor, Drawing};
 
 pub const REST: &str = "#d9f2d9";
 pub const CHANGING: &str = "#fbe3c2";
+pub const CHANGING_MOVED: &str = "#f2b872";
 pub const READING: &str = "#d8e4f2";
 pub const STOPPED: &str = "#f7f0e6";
 pub const WAITING: &str = "#ffd9a8";
 pub const RESPONSE: &str = "#cdb9e3";
+pub const RESPONSE_MOVED: &str = "#b093d6";
 pub const FREE: &str = "#eeeeee";
 
-pub const HEIGHT: f64 = 92.0;
 /// Marks and colours in a line.
 const COLUMNS: usize = 5;
 const COLUMN: f64 = 182.0;
+const LINE: f64 = 17.0;
 
 /// The marks of the legend.
 const MARKS: [(Purpose, bool); 9] = [
@@ -30,14 +32,23 @@ const MARKS: [(Purpose, bool); 9] = [
 ];
 
 /// The colours of the legend.
-const COLOURS: [(&str, &str); 6] = [
+const COLOURS: [(&str, &str); 8] = [
     (REST, "point of rest"),
-    (CHANGING, "changing operation"),
     (READING, "reading operation"),
+    (CHANGING, "changing operation"),
+    (CHANGING_MOVED, "changing, state moved"),
     (STOPPED, "pending, no further call"),
     (WAITING, "operation announced"),
-    (RESPONSE, "response in a cell"),
+    (RESPONSE, "response, state not moved"),
+    (RESPONSE_MOVED, "response, state moved"),
 ];
+
+/// The place of the first colour: it begins a line.
+const FIRST_COLOUR: usize = MARKS.len().next_multiple_of(COLUMNS);
+
+/// The lines of marks and colours, and the legend's height, in which a line of labels comes after them.
+const LINES: usize = (FIRST_COLOUR + COLOURS.len()).div_ceil(COLUMNS);
+pub const HEIGHT: f64 = LINE * LINES as f64 + 41.0;
 
 /// What the labels say.
 const LABELS: &str = "Over a bar: operation \u{2192} response. Over the head: its state. Over an announcement: its operation or its \
@@ -73,22 +84,23 @@ pub fn draw_mark(drawing: &mut Drawing, place: (f64, f64), purpose: Purpose, fai
 pub fn draw_legend(drawing: &mut Drawing, (left, top): (f64, f64)) {
     let place = |at: usize| {
         let (column, line) = ((at % COLUMNS) as f64, (at / COLUMNS) as f64);
-        (left + COLUMN * column, top + 10.0 + 17.0 * line)
+        (left + COLUMN * column, top + 10.0 + LINE * line)
     };
-    let mut names = Vec::new();
     for (at, (purpose, failed)) in MARKS.into_iter().enumerate() {
         let (_, name) = look(purpose, failed);
         draw_mark(drawing, place(at), purpose, failed, name);
-        names.push(name);
+        draw_name(drawing, place(at), name);
     }
-    for (fill, name) in COLOURS {
-        let (x, y) = place(names.len());
-        drawing.rectangle((x - 5.0, y - 5.0), (11.0, 11.0), fill);
-        names.push(name);
-    }
-    for (at, name) in names.into_iter().enumerate() {
+    for (at, (fill, name)) in (FIRST_COLOUR..).zip(COLOURS) {
         let (x, y) = place(at);
-        drawing.text((x + 10.0, y + 4.0), 11.0, Anchor::Start, name);
+        drawing.rectangle((x - 5.0, y - 5.0), (11.0, 11.0), fill);
+        draw_name(drawing, (x, y), name);
     }
-    drawing.text((left - 5.0, top + 70.0), 11.0, Anchor::Start, LABELS);
+    let below = top + 19.0 + LINE * LINES as f64;
+    drawing.text((left - 5.0, below), 11.0, Anchor::Start, LABELS);
+}
+
+/// The name of the mark or colour at a place.
+fn draw_name(drawing: &mut Drawing, (x, y): (f64, f64), name: &str) {
+    drawing.text((x + 10.0, y + 4.0), 11.0, Anchor::Start, name);
 }

@@ -13,6 +13,7 @@ mod phase;
 mod picture;
 mod picture_rows;
 mod refused;
+mod reply;
 mod session;
 mod show;
 mod svg;

@@ -55,10 +55,10 @@ fn told(event: &Event, shape: Shape) -> Vec<String> {
         Event::Ended {
             task,
             operation,
-            response,
+            reply,
             steps,
         } => {
-            format!("task {task} ends operation {operation}: response {response}, own steps {steps}")
+            format!("task {task} ends operation {operation}: {reply}, own steps {steps}")
         }
         Event::Rest { state } => format!("at rest in state {state}"),
         Event::Refused(refusal) => refused::in_words(*refusal),

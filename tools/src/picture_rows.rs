@@ -2,9 +2,12 @@
 
 use std::ops::Range;
 
-use crate::legend::{draw_mark, CHANGING, FREE, READING, RESPONSE, REST, STOPPED, WAITING};
+use crate::legend::{
+    draw_mark, CHANGING, CHANGING_MOVED, FREE, READING, RESPONSE, RESPONSE_MOVED, REST, STOPPED, WAITING,
+};
 use crate::names::Names;
 use crate::narrative::step_line;
+use crate::reply::Reply;
 use crate::session::Step;
 use crate::svg::{width_of, Anchor, Drawing};
 use crate::timeline::{Call, Operation, Run};
@@ -176,9 +179,8 @@ fn draw_operation(drawing: &mut Drawing, row: &Row, operation: &Operation, label
     if first >= last {
         return;
     }
-    let moving = last.min(row.run.last_call(operation.task) + 1).max(first);
-    let fill = if operation.changing { CHANGING } else { READING };
-    for (from, to, fill) in [(first, moving, fill), (moving, last, STOPPED)] {
+    let called = last.min(row.run.last_call(operation.task) + 1).max(first);
+    for (from, to, fill) in [(first, called, bar_colour(operation)), (called, last, STOPPED)] {
         if from == to {
             continue;
         }
@@ -192,13 +194,21 @@ fn draw_operation(drawing: &mut Drawing, row: &Row, operation: &Operation, label
     }
 }
 
+fn bar_colour(operation: &Operation) -> &'static str {
+    match operation.ended {
+        _ if !operation.changing => READING,
+        Some((_, Reply { moved: true, .. })) => CHANGING_MOVED,
+        _ => CHANGING,
+    }
+}
+
 impl Labels {
     /// An operation and what it answers, or the answer alone, or nothing: the longest that there is room for.
     fn operation(&self, operation: &Operation, room: f64) -> Option<String> {
         let name = self.operations.of(operation.number);
         let answer = operation
             .ended
-            .map_or("pending".into(), |(_, response)| response.to_string());
+            .map_or("pending".into(), |(_, reply)| reply.response.to_string());
         let long = match self.operations.any() {
             true => format!("{name} \u{2192} {answer}"),
             false => format!("operation {name} \u{2192} {answer}"),
@@ -236,11 +246,20 @@ fn draw_content(drawing: &mut Drawing, row: &Row, cell: usize, labels: &Labels) 
 /// Colour and label of a cell's word; none for an empty announcement.
 fn said(cell: usize, word: u64, labels: &Labels) -> Option<(&'static str, String)> {
     match (cell, content(word)) {
-        (0, _) if held(word).is_some() => Some((RESPONSE, labels.states.of(state(word) as usize))),
-        (0, _) => Some((FREE, labels.states.of(state(word) as usize))),
+        (0, _) => {
+            let fill = held(word).map_or(FREE, |(_, reply)| response_colour(reply));
+            Some((fill, labels.states.of(state(word) as usize)))
+        }
         (_, Content::Empty) => None,
         (_, Content::Operation(operation)) => Some((WAITING, labels.operations.of(operation as usize))),
-        (_, Content::Response(response)) => Some((RESPONSE, response.to_string())),
+        (_, Content::Response(reply)) => Some((response_colour(reply), reply.response.to_string())),
+    }
+}
+
+fn response_colour(reply: Reply) -> &'static str {
+    match reply.moved {
+        true => RESPONSE_MOVED,
+        false => RESPONSE,
     }
 }
 

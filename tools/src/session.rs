@@ -6,6 +6,7 @@ use crate::lines::{self, Command};
 use crate::object::Object;
 use crate::phase::{begun_changing, planned, Access, Planned};
 use crate::refused;
+use crate::reply::Reply;
 use crate::word;
 
 /// An accepted step.
@@ -39,7 +40,7 @@ pub enum Event {
     Ended {
         task: usize,
         operation: usize,
-        response: u16,
+        reply: Reply,
         steps: u32,
     },
     /// A point of rest is reached, with the state in the head.
@@ -174,21 +175,26 @@ impl Run {
         }));
         match progress {
             Progress::Running => Ok(None),
-            Progress::Ended { response, steps } => {
-                self.end(task, response, steps, events);
-                Ok(Some(format!("r {task} {response}")))
+            Progress::Ended {
+                response,
+                moved,
+                steps,
+            } => {
+                let response = u64::from(response);
+                self.end(task, Reply { response, moved }, steps, events);
+                Ok(Some(format!("r {task} {response} {}", u8::from(moved))))
             }
         }
     }
 
-    fn end(&mut self, task: usize, response: u16, steps: u32, events: &mut Vec<Event>) {
+    fn end(&mut self, task: usize, reply: Reply, steps: u32, events: &mut Vec<Event>) {
         let (operation, changing) = self.pending[task]
             .take()
             .expect("an operation that ends was begun");
         events.push(Event::Ended {
             task,
             operation,
-            response,
+            reply,
             steps,
         });
         let resting = !self.pending.iter().flatten().any(|(_, changing)| *changing);

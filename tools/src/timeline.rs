@@ -1,5 +1,6 @@
 //! The runs of a session, column by column: a column for each accepted call of begin and step.
 
+use crate::reply::Reply;
 use crate::session::{Event, Step};
 
 /// An accepted call, and whether the point after it is a point of rest.
@@ -19,7 +20,7 @@ pub struct Operation {
     pub number: usize,
     pub changing: bool,
     pub first: usize,
-    pub ended: Option<(usize, u16)>,
+    pub ended: Option<(usize, Reply)>,
 }
 
 /// An accepted start, and the accepted calls after it.
@@ -69,9 +70,9 @@ impl Run {
                 self.add(Call::Begin(task));
             }
             Event::Stepped(step) => self.add(Call::Step(step)),
-            Event::Ended { task, response, .. } => {
+            Event::Ended { task, reply, .. } => {
                 if let Some(operation) = self.pending().find(|operation| operation.task == task) {
-                    operation.ended = Some((at - 1, response));
+                    operation.ended = Some((at - 1, reply));
                 }
                 let rest = self.rests();
                 self.columns[at - 1].rest = rest;

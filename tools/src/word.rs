@@ -2,6 +2,8 @@
 
 use std::fmt::Write;
 
+use crate::reply::Reply;
+
 /// A field of a cell: `width` bits from bit `low` up.
 fn field(word: u64, low: u32, width: u32) -> u64 {
     word >> low & ((1 << width) - 1)
@@ -25,22 +27,29 @@ pub fn state(head: u64) -> u64 {
 pub enum Content {
     Empty,
     Operation(u64),
-    Response(u64),
+    Response(Reply),
 }
 
 pub fn content(announcement: u64) -> Content {
     let payload = field(announcement, 16, 8);
     match field(announcement, 8, 2) {
         1 => Content::Operation(payload),
-        2 => Content::Response(payload),
+        2 => Content::Response(Reply {
+            response: payload,
+            moved: field(announcement, 24, 1) == 1,
+        }),
         _ => Content::Empty,
     }
 }
 
-/// The holder of a head with the response that it is due.
-pub fn held(head: u64) -> Option<(u64, u64)> {
+/// The holder of a head with what its operation answers.
+pub fn held(head: u64) -> Option<(u64, Reply)> {
     let holder = field(head, 24, 4).checked_sub(1)?;
-    Some((holder, field(head, 16, 8)))
+    let reply = Reply {
+        response: field(head, 16, 8),
+        moved: field(head, 28, 1) == 1,
+    };
+    Some((holder, reply))
 }
 
 /// The marks of a cell in a library's run, where bits that have no name are 0.
@@ -54,10 +63,10 @@ pub fn meaning(cell: usize, word: u64) -> String {
         (0, _) => format!("state {}", state(word)),
         (_, Content::Empty) => "empty".into(),
         (_, Content::Operation(operation)) => format!("operation {operation}"),
-        (_, Content::Response(response)) => format!("response {response}"),
+        (_, Content::Response(reply)) => reply.to_string(),
     };
-    if let (0, Some((holder, response))) = (cell, held(word)) {
-        write!(text, ", response {response} for task {holder}").expect("a string takes every text");
+    if let (0, Some((holder, reply))) = (cell, held(word)) {
+        write!(text, ", {reply}, for task {holder}").expect("a string takes every text");
     }
     if marks(word) > 0 {
         text.push_str(", marked by");

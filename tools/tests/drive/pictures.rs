@@ -11,9 +11,12 @@ const TABLE: &str = "../crates/bench/data/table.bin";
 const FLAG_RUN: &str = "../crates/bench/stdin";
 const STOPPED_RUN: &str = "examples/stopped.lines";
 
+/// The width of a letter of the legend, about.
+const LEGEND_LETTER: f64 = 6.2;
+
 /// What a step does by its line, the access or the beginning of the phase's name, with its colour and its name.
 const LOOKS: [(&str, &str, &str); 9] = [
-    (", not ", "#d62728", "a swap that fails"),
+    (", not 0", "#d62728", "a swap that fails"),
     ("  read ", "#888888", "reads"),
     ("  Announce", "#ff7f0e", "announces its operation"),
     ("  Link", "#1f77b4", "links a cell"),
@@ -25,13 +28,15 @@ const LOOKS: [(&str, &str, &str); 9] = [
 ];
 
 /// What the colours of bars, bands and stretches mean.
-const FILLS: [(&str, &str); 6] = [
+const FILLS: [(&str, &str); 8] = [
     ("#d9f2d9", "point of rest"),
-    ("#fbe3c2", "changing operation"),
     ("#d8e4f2", "reading operation"),
+    ("#fbe3c2", "changing operation"),
+    ("#f2b872", "changing, state moved"),
     ("#f7f0e6", "pending, no further call"),
     ("#ffd9a8", "operation announced"),
-    ("#cdb9e3", "response in a cell"),
+    ("#cdb9e3", "response, state not moved"),
+    ("#b093d6", "response, state moved"),
 ];
 
 /// The lines of steps in the second program's trace.
@@ -153,6 +158,32 @@ fn the_legend_names_every_mark_and_colour() {
         let (left, top) = place(line, " x='", " y='").expect("a place");
         assert_eq!(named_at(&picture, (left + 5.0, top + 5.0)), Some(name));
     }
+}
+
+/// The texts of the legend stand in the picture, and beside each other there is room for a mark between them.
+#[test]
+fn the_texts_of_the_legend_have_room() {
+    let picture = drive(&["picture", TABLE, FLAG_RUN], b"").text();
+    let height = place(&picture, " width='", " height='").expect("a size").1;
+    let texts = picture.lines().filter(|line| line.contains("font-size='11'"));
+    let ends = |line: &str| {
+        let (x, y) = place(line, " x='", " y='").expect("a place");
+        let text = line
+            .strip_suffix("</text>")
+            .and_then(|line| line.rsplit('>').next());
+        (
+            x,
+            y,
+            x + LEGEND_LETTER * text.expect("a text").chars().count() as f64,
+        )
+    };
+    let texts: Vec<(f64, f64, f64)> = texts.map(ends).collect();
+    for (x, y, end) in &texts {
+        assert!(y + 5.0 < height);
+        let beside = texts.iter().filter(|other| other.1 == *y && other.0 > *x);
+        assert!(beside.into_iter().all(|other| end + 15.0 < other.0));
+    }
+    assert_eq!(texts.len(), LOOKS.len() + FILLS.len() + 1);
 }
 
 /// The small labels, in the order in which they are drawn.

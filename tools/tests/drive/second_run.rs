@@ -2,12 +2,23 @@
 
 use reference::cells::{Announcement, Head};
 use reference::machine::{Action, Outcome};
+use reference::reply::Reply;
 use reference::trace::served_lines;
 use reference::trace_event::{Event, Step};
 
 pub const REST: &str = "#d9f2d9";
-pub const BARS: [&str; 3] = ["#fbe3c2", "#d8e4f2", "#f7f0e6"];
-pub const STRETCHES: [&str; 3] = ["#eeeeee", "#cdb9e3", "#ffd9a8"];
+
+const READING: &str = "#d8e4f2";
+const CHANGING: &str = "#fbe3c2";
+const CHANGING_MOVED: &str = "#f2b872";
+const STOPPED: &str = "#f7f0e6";
+pub const BARS: [&str; 4] = [READING, CHANGING, CHANGING_MOVED, STOPPED];
+
+const FREE: &str = "#eeeeee";
+const WAITING: &str = "#ffd9a8";
+const RESPONSE: &str = "#cdb9e3";
+const RESPONSE_MOVED: &str = "#b093d6";
+pub const STRETCHES: [&str; 4] = [FREE, WAITING, RESPONSE, RESPONSE_MOVED];
 
 /// A call as the picture shows it: its task, and for a step its cell and the mark's shape.
 #[derive(Clone, Debug, PartialEq)]
@@ -16,13 +27,30 @@ pub struct Call {
     pub step: Option<(usize, &'static str)>,
 }
 
-/// An operation: task, number, first column, column after its end, colour, response.
+/// An operation: task, number, whether it is changing, first column, column after its end, and its reply if it has one.
 pub struct Operation {
     pub task: usize,
     pub number: usize,
+    changing: bool,
     pub columns: (usize, usize),
-    fill: &'static str,
-    pub answer: String,
+    reply: Option<Reply>,
+}
+
+impl Operation {
+    /// What its label says that it answers.
+    pub fn answer(&self) -> String {
+        self.reply
+            .map_or("pending".into(), |reply| reply.response.to_string())
+    }
+
+    fn fill(&self) -> &'static str {
+        let moved = self.reply.is_some_and(|reply| reply.moved);
+        match (self.changing, moved) {
+            (false, _) => READING,
+            (true, false) => CHANGING,
+            (true, true) => CHANGING_MOVED,
+        }
+    }
 }
 
 #[derive(Default)]
@@ -53,7 +81,15 @@ impl Run {
                 changing,
             } => self.begin(*task, *operation, *changing),
             Event::Stepped(step) => self.step(step),
-            Event::Ended { task, response, .. } => self.end(*task, response.to_string()),
+            Event::Ended {
+                task,
+                response,
+                moved,
+                ..
+            } => {
+                let (response, moved) = (*response, *moved);
+                self.end(*task, Reply { response, moved });
+            }
             _ => {}
         }
     }
@@ -62,9 +98,9 @@ impl Run {
         self.operations.push(Operation {
             task,
             number,
+            changing,
             columns: (self.calls.len(), usize::MAX),
-            fill: BARS[usize::from(!changing)],
-            answer: "pending".into(),
+            reply: None,
         });
         self.call(Call { task, step: None }, None);
     }
@@ -84,10 +120,10 @@ impl Run {
         self.call(call, Some((cell, step.after)));
     }
 
-    fn end(&mut self, task: usize, answer: String) {
-        let pending = |operation: &&mut Operation| operation.task == task && operation.answer == "pending";
+    fn end(&mut self, task: usize, reply: Reply) {
+        let pending = |operation: &&mut Operation| operation.task == task && operation.reply.is_none();
         let ended = self.operations.iter_mut().find(pending).expect("an operation");
-        (ended.columns.1, ended.answer) = (self.calls.len(), answer);
+        (ended.columns.1, ended.reply) = (self.calls.len(), Some(reply));
         let rests = self.rests();
         self.points.last_mut().expect("a point").1 = rests;
     }
@@ -103,8 +139,8 @@ impl Run {
     }
 
     fn rests(&self) -> bool {
-        let changing = |operation: &Operation| operation.fill == BARS[0] && operation.answer == "pending";
-        !self.operations.iter().any(changing)
+        let pending = |operation: &Operation| operation.changing && operation.reply.is_none();
+        !self.operations.iter().any(pending)
     }
 
     /// The bar's colour on a task's lane in a column.
@@ -113,8 +149,8 @@ impl Run {
             operation.task == task && operation.columns.0 <= column && column < operation.columns.1
         };
         let operation = self.operations.iter().find(covers)?;
-        let moves = self.calls[column..].iter().any(|call| call.task == task);
-        Some(if moves { operation.fill } else { BARS[2] })
+        let called = self.calls[column..].iter().any(|call| call.task == task);
+        Some(if called { operation.fill() } else { STOPPED })
     }
 
     /// Colour and label of a cell at a point.
@@ -122,16 +158,21 @@ impl Run {
         let word = self.points[point].0[cell];
         if cell == 0 {
             let head = Head::decode(word);
-            return Some((
-                STRETCHES[usize::from(head.holder.is_some())],
-                head.state.to_string(),
-            ));
+            let fill = head.holder.map_or(FREE, |holder| response_fill(holder.reply));
+            return Some((fill, head.state.to_string()));
         }
         match Announcement::decode(word) {
             Announcement::Empty => None,
-            Announcement::Operation(number) => Some((STRETCHES[2], number.to_string())),
-            Announcement::Response(response) => Some((STRETCHES[1], response.to_string())),
+            Announcement::Operation(number) => Some((WAITING, number.to_string())),
+            Announcement::Response(reply) => Some((response_fill(reply), reply.response.to_string())),
         }
+    }
+}
+
+fn response_fill(reply: Reply) -> &'static str {
+    match reply.moved {
+        true => RESPONSE_MOVED,
+        false => RESPONSE,
     }
 }
 

@@ -1,6 +1,8 @@
 //! Where things stand in the drawing of a run: marks, bars, bands, stretches and labels, column by column, compared with the
 //! second program's run.
 
+use std::collections::BTreeSet;
+
 use crate::drawing::{Picture, Row};
 use crate::program::drive_on;
 use crate::second_run::{runs, Operation, Run, BARS, REST, STRETCHES};
@@ -109,7 +111,7 @@ impl Shown<'_> {
                 self.x((column - self.first) as f64),
                 self.task_line(operation.task) - 10.0,
             );
-            let answer = format!("\u{2192}{}", operation.answer);
+            let answer = format!("\u{2192}{}", operation.answer());
             match self.picture.label(place.0, place.1) {
                 Some(label) => {
                     let label = label.replace("operation ", "").replace(' ', "");
@@ -172,7 +174,7 @@ fn stacked(picture: &Picture) {
     let lanes = picture.rows.iter().flat_map(|row| &row.lanes);
     let lines: Vec<f64> = lanes.map(|(_, line)| *line).collect();
     assert!(lines.windows(2).all(|pair| pair[0] + 20.0 < pair[1]));
-    assert!(lines[lines.len() - 1] + 10.0 < picture.legend && picture.legend + 40.0 < picture.height);
+    assert!(lines[lines.len() - 1] + 10.0 < picture.legend && picture.legend < picture.height);
 }
 
 /// Compares all rows; how many of the runs take more than one.
@@ -209,9 +211,20 @@ fn compare(picture: &Picture, runs: &[Run]) -> usize {
     long
 }
 
+/// The colours of all bars and stretches of a run.
+fn colours(run: &Run) -> impl Iterator<Item = &'static str> + '_ {
+    let bars =
+        (0..run.calls.len()).flat_map(move |at| (0..run.tasks).filter_map(move |task| run.bar(task, at)));
+    let stretches = (0..run.points.len())
+        .flat_map(move |at| (0..=run.tasks).filter_map(move |cell| run.stretch(cell, at)))
+        .map(|(fill, _)| fill);
+    bars.chain(stretches)
+}
+
 #[test]
 fn everything_stands_where_the_second_program_has_it() {
     let (mut compared, mut long) = (0, 0);
+    let mut seen = BTreeSet::new();
     for seed in 0..SCRIPTS {
         let script = random_script(seed);
         let table = script.table.unwrap_or_default();
@@ -222,6 +235,8 @@ fn everything_stands_where_the_second_program_has_it() {
         let picture = drive_on("picture", &table, &script.input).text();
         long += compare(&Picture::of(&picture), &runs);
         compared += runs.len();
+        seen.extend(runs.iter().flat_map(colours));
     }
+    assert_eq!(seen, BTreeSet::from_iter([BARS, STRETCHES].concat()));
     assert!(compared > 150 && long > 20, "{compared} {long}");
 }

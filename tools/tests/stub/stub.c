@@ -1,8 +1,12 @@
 /*
  * An archive that answers otherwise than the library, whatever it is lent: the start state is 1, operation 0 is changing and
- * the others are reading, every step is refused with 12, and every ceiling is 77. What drive shows must follow it.
+ * the others are reading, every ceiling is 77, and a step of task 0 is refused with 12. A step of another task ends its
+ * operation: a changing one leaves replies that moved in the cells and answers that nothing moved, a reading one leaves
+ * everything and answers that the state moved. What drive shows must follow it.
  */
 #include "../../../linking/drive_object.h"
+
+enum { READ_ONLY = 1, ANNOUNCE = 2 };
 
 uint64_t drive_check(const uint8_t *file, size_t file_length) {
     (void)file, (void)file_length;
@@ -24,14 +28,28 @@ uint64_t drive_start(const uint8_t *file, size_t file_length, uint64_t *cells, s
 uint64_t drive_begin(const uint8_t *file, size_t file_length, drive_task *row, size_t task_count, size_t task,
                      size_t operation) {
     (void)file, (void)file_length, (void)task_count;
-    row[task].phase = operation == 0 ? 2 : 1;
+    row[task].phase = operation == 0 ? ANNOUNCE : READ_ONLY;
     return 0;
+}
+
+static uint64_t ended(uint64_t moved, uint64_t response, uint64_t steps) {
+    return 1 << 8 | moved << 9 | response << 16 | steps << 32;
 }
 
 uint64_t drive_step(const uint8_t *file, size_t file_length, uint64_t *cells, size_t cell_count, drive_task *row,
                     size_t task_count, size_t task) {
-    (void)file, (void)file_length, (void)cells, (void)cell_count, (void)row, (void)task_count, (void)task;
-    return DRIVE_CELL;
+    (void)file, (void)file_length, (void)cell_count, (void)task_count;
+    if (task == 0) {
+        return DRIVE_CELL;
+    }
+    bool reading = row[task].phase == READ_ONLY;
+    row[task].phase = 0;
+    if (reading) {
+        return ended(1, 4, 55);
+    }
+    cells[0] = 0x11060300;
+    cells[task + 1] = 0x01050200;
+    return ended(0, 3, 44);
 }
 
 uint64_t drive_ceiling(size_t task_count) {
