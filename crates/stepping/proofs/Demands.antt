@@ -31,7 +31,7 @@ use Rattle.transition.specs.Encoding.{encodeAccess}
 use Rattle.transition.proofs.Lawful.{object-lawful}
 use Rattle.stepping.specs.Step.{cellInForm}
 use Rattle.stepping.specs.Access.{accessOf}
-use Rattle.stepping.specs.Runs.{Store, Outcome, serveOf, runOf, historyOf}
+use Rattle.stepping.specs.Runs.{Store, CallOutcome, serveOf, runOf, historyOf}
 use Rattle.stepping.specs.Opening.{Opening, objectIn, shown}
 use Rattle.stepping.specs.Statement.{recordAfter, EmptyAt, Emptied}
 use Rattle.stepping.specs.Encoding.{encodeCells, encodeConfig}
@@ -87,7 +87,7 @@ module _ {file : List ℕ} {n q : ℕ} {s : Store} (o : Opening file n q s) wher
     history-opened = rw first-store (history-simulates file (o .shape) (o .table) n (o .some) (o .few) xs (start q) in-range)
 
     pub answer-opened : (x : Call) → serveOf file x (runOf file xs s) .answer ≡ serve (objectIn o) n x (run (objectIn o) n xs (start q)) .answer
-    answer-opened x = rw run-opened (ap (λ (out : Outcome). out .answer) (serve-simulates file (o .shape) (o .table) n (o .some) (o .few) x (machineRun xs) (in-range xs)))
+    answer-opened x = rw run-opened (ap (λ (out : CallOutcome). out .answer) (serve-simulates file (o .shape) (o .table) n (o .some) (o .few) x (machineRun xs) (in-range xs)))
 
     -- The access of a pending task's next step is the machine's.
     pub access-opened : (t x k : ℕ) → pending (history (objectIn o) n xs (start q)) t ≡ Pends x k

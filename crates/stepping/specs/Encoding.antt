@@ -7,7 +7,7 @@ use Rattle.machine.specs.Machine as machine
 use Rattle.machine.specs.Run.{Config, Served}
 use Rattle.records.specs.declared.record.Task.{Task}
 use Rattle.transition.specs.Encoding.{encodeHead, encodeAnnouncement, encodeTask}
-use Rattle.stepping.specs.Runs.{Store, Outcome}
+use Rattle.stepping.specs.Runs.{Store, CallOutcome}
 
 -- The cells of n tasks: the head, then the announcements in the order of the tasks.
 abbrev pub encodeCells : ℕ → Memory → List ℕ
@@ -22,5 +22,5 @@ abbrev pub encodeConfig : ℕ → Config → Store
 encodeConfig n c = record { cells = encodeCells n (c .memory); row = encodeRow n (c .task) }
 
 -- What a call leaves of a configuration, and its answer.
-abbrev pub encodeServed : ℕ → Served → Outcome
+abbrev pub encodeServed : ℕ → Served → CallOutcome
 encodeServed n r = record { store = encodeConfig n (r .config); answer = r .answer }

@@ -12,12 +12,12 @@ pub record Store : Type 0 where
   pub row : List Task
 
 -- What a call leaves, and what it answers.
-pub record Outcome : Type 0 where
+pub record CallOutcome : Type 0 where
   pub store : Store
   pub answer : Answer
 
 -- A call of begin leaves the cells as they are.
-abbrev pub serveOf : List ℕ → Call → Store → Outcome
+abbrev pub serveOf : List ℕ → Call → Store → CallOutcome
 serveOf file (Begin i o) s =
     let out = beginOf file (s .row) i o in
     record { store = record { cells = s .cells; row = out .row }; answer = beginSaid (out .answer) }

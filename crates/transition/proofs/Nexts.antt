@@ -1,5 +1,5 @@
 -- What a step leads to, from an encoded record and an encoded result.
-use mathlib.Core.Path.{_≡_}
+use mathlib.Core.Path.{_≡_, sym, ap₂, subst}
 use mathlib.Core.Bool.{Bool, true, false, cond}
 use mathlib.Core.List.{List}
 use mathlib.Core.Logic.{ite}
@@ -125,4 +125,6 @@ module _ (file : List ℕ) (shape : Shape) (table : ObjectTable file shape) (n :
   next-simulates (LinkExit h v) r = rw (head-linked file shape table n most h (r .0) i below) (swap (headMade h) (goes (ClearExit (linked i h) v)) (goes (LoadExit v)))
   next-simulates (ClearExit h v) r = swap (headMade h) (goes (Retract v)) (goes (LoadExit v))
   next-simulates (ReleaseExit h v) r = swap (headMade h) (goes (Retract v)) (goes (LoadExit v))
-  next-simulates (Retract v) r = let small : v .response < 65536 = omega (arith, r) in rw (response-kept (v .response) (v .moved) small, moved-kept (v .response) (v .moved) small) (ends v)
+  next-simulates (Retract v) r =
+      let small : v .response < 65536 = omega (arith, r) in
+      subst (Encodes (machine.End v)) (sym (ap₂ End (response-kept (v .response) (v .moved) small) (moved-kept (v .response) (v .moved) small))) (ends v)

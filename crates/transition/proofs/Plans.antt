@@ -1,5 +1,5 @@
 -- The access of the next step, planned on an encoded record.
-use mathlib.Core.Path.{_≡_, refl, ap, _∙_}
+use mathlib.Core.Path.{_≡_, refl, ap, ap₂, _∙_}
 use mathlib.Core.Bool.{true}
 use mathlib.Core.List.{List}
 use Prim.Native.Nat.{ℕ, _+_, _<_, _≤_}
@@ -8,6 +8,7 @@ use native.Mathlib.Omega.{arith}
 use borrow.Author.Tests.{ltb-true}
 use Rattle.cells.specs.Field.{pack}
 use Rattle.cells.specs.Layout.{marksWidth, headOf, announcementWord}
+use Rattle.cells.specs.declared.announcement.Announcement.the-variants as content
 use Rattle.table.specs.declared.Shape.{Shape}
 use Rattle.table.specs.Entries.{entryInRange}
 use Rattle.table.proofs.Accepted.{accepted-fitting, accepted-entry}
@@ -61,7 +62,7 @@ module _ (file : List ℕ) (shape : Shape) (table : ObjectTable file shape) (n :
 
     response-word : responseWord (encodeHead h) ≡ announcementWord (announcementIn (Resp (outcomeOf (h .value)))) 0
     unfolding responseWord
-    response-word = rw (head-response, head-moved)
+    response-word = ap₂ (λ r v. announcementWord (content.Response r v) 0) head-response head-moved
 
   module _ (i p x s : ℕ) (below : i < n) where
     -- The planned access.
