@@ -1,6 +1,6 @@
 -- The count of ones of the low byte is the count of marks, for marks of any width.
 use mathlib.Core.Path.{_≡_, refl, _∙_}
-use mathlib.Core.Bool.{Bool, true, false, cond}
+use mathlib.Core.Bool.{Bool, true, false}
 use mathlib.Core.List.{List, [], _∷_, _++_}
 use Prim.Native.Nat.{ℕ, zero, suc, _+_, _/_, _%_, _^_, _<_, _≤_}
 use native.Mathlib.Nat.{mod-lt}
@@ -11,17 +11,18 @@ use lib.Count.{ones, onesIn, ones-cat}
 use lib.ListN.{length, take, getD}
 use lib.Pow.{mod-pow-add, pow-pos}
 use lib.Seq.{take-suc}
+use Rattle.laws.specs.Bit.{bit}
 use Rattle.laws.proofs.Choice.{pick-le}
 use Rattle.cells.specs.Count.{marksBelow, marksIn, markCount}
 use Rattle.cells.specs.Layout.{marksWidth}
 use Rattle.cells.specs.Marks.{has}
 
 -- One bit is counted as one mark.
-bit-count : (k w : ℕ) → ones (w / 2 ^ k % 2) ≡ cond (has k w) 1 0
+bit-count : (k w : ℕ) → ones (w / 2 ^ k % 2) ≡ bit (has k w)
 unfolding has ones onesIn
 bit-count k w = at (has k w) refl
   where
-    at : (b : Bool) → has k w ≡ b → ones (w / 2 ^ k % 2) ≡ cond (has k w) 1 0
+    at : (b : Bool) → has k w ≡ b → ones (w / 2 ^ k % 2) ≡ bit (has k w)
     at true e = rw (e, eqb-true (w / 2 ^ k % 2) 1 e)
     at false e =
         let z : w / 2 ^ k % 2 ≡ 0 = omega (arith, eqb-false (w / 2 ^ k % 2) 1 e) in

@@ -3,6 +3,7 @@ use mathlib.Core.Bool.{Bool, true, false, _||_, _&&_, not, cond}
 use mathlib.Core.Logic.{ite}
 use Prim.Native.Nat.{ℕ, _+_, _*_, _-_, _≤_, _<_}
 use native.Mathlib.Decide.{ℕ-discrete, decLe}
+use Rattle.laws.specs.Bit.{bit}
 use Rattle.laws.specs.Decision.{decided}
 use Rattle.laws.specs.Sum.{sum, but}
 use Rattle.machine.specs.Memory.{HeadValue, Free, Held, Content, Empty, Op, Resp, Cell, Memory, head-dec, announcement-dec}
@@ -107,10 +108,6 @@ row (Retract v) = columns (always 1) (fixed 13) NoWord false Elsewhere
 
 -- ---- Readings of the cells
 
--- 1 for yes.
-abbrev pub one : Bool → ℕ
-one x = cond x 1 0
-
 abbrev pub answered : Content → Bool
 answered Empty = false
 answered (Op o) = false
@@ -124,8 +121,8 @@ waiting (Resp v) = false
 -- What it may cost that the compared word is not in its cell any more.
 abbrev pub stale : Memory → Compared → ℕ
 stale m NoWord = 0
-stale m (HeadWord h) = headWeight * one (not (decided (head-dec (m .head) h)))
-stale m (AnnouncementWord j a) = announcementWeight * one (not (decided (announcement-dec (m .announcement j) a)))
+stale m (HeadWord h) = headWeight * bit (not (decided (head-dec (m .head) h)))
+stale m (AnnouncementWord j a) = announcementWeight * bit (not (decided (announcement-dec (m .announcement j) a)))
 
 -- The head is held.
 abbrev pub held : HeadValue → Bool
@@ -213,7 +210,7 @@ stageWeights n p d m (Held q j r) = ite (ℕ-discrete j p) 0 (d * cycleWeight n 
 
 -- The own place: in the loop, with a stale word, with the mark in the head lost.
 abbrev pub placeOf : Memory → ℕ → Row → ℕ
-placeOf m i r = r .position false + stale m (r .compared) + lostWeight * one (r .linked && not (inHead m i))
+placeOf m i r = r .position false + stale m (r .compared) + lostWeight * bit (r .linked && not (inHead m i))
 
 abbrev pub waitingPotential : ℕ → Config → ℕ → ℕ
 waitingPotential n c p =
@@ -270,7 +267,7 @@ changesDue m t = cond (waiting (content m t) || holds t (headValue m)) 2 0
 -- and by the help that t still takes, unless x gives that already and works for the holder with its mark in the head.
 abbrev pub changesLeft : Memory → (x t : ℕ) → Work → ℕ
 changesLeft m x t w =
-    cond (approaches t w) 2 (one (inAnnouncement m x t))
+    cond (approaches t w) 2 (bit (inAnnouncement m x t))
     + cond (worksFor t w && (holds t (headValue m) && inHead m x)) 0 (changesDue m t)
 
 -- The part of the head: due while the own mark stands in it or the task holds it.

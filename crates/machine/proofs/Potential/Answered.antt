@@ -5,6 +5,7 @@ use mathlib.Core.Logic.{_≢_, if-neg}
 use Prim.Native.Nat.{ℕ, _+_, _*_, _≤_, _<_}
 use native.Mathlib.Decide.{ℕ-discrete}
 use native.Mathlib.Omega.{arith}
+use Rattle.laws.specs.Bit.{bit}
 use Rattle.laws.specs.Update.{update}
 use Rattle.laws.specs.Decision.{decided}
 use Rattle.laws.specs.Sum.{but}
@@ -17,7 +18,7 @@ use Rattle.machine.specs.Memory.{HeadValue, Free, Held, Content, Cell, M
 use Rattle.machine.specs.Machine.{Phase, Idle, ReadOnly, Announce, Poll, LoadHead, LinkHead, LoadPriority, LoadOwn, Apply, ReloadApply, LoadHelped, LinkHelped, Validate, HandOver, ReloadHandOver, Release, ReloadRelease, ClearHead, ReloadClear, LoadExit, LinkExit, ClearExit, ReleaseExit, Retract, Task}
 use Rattle.machine.specs.Run.{Config}
 use Rattle.machine.specs.Invariant.{inHead, inAnnouncement, headValue, content, OwnSaved}
-use Rattle.machine.specs.Potential.{row, Work, Elsewhere, Linking, Passing, Applying, Approaching, Marking, Finishing, HeadWord, AnnouncementWord, one, stale, holds, unanswered, linking, counts, changesLeft, atHead, headLoad, changesByOthers, headPart, markPart, announcementAside, lasts, answeredPotential}
+use Rattle.machine.specs.Potential.{row, Work, Elsewhere, Linking, Passing, Applying, Approaching, Marking, Finishing, HeadWord, AnnouncementWord, stale, holds, unanswered, linking, counts, changesLeft, atHead, headLoad, changesByOthers, headPart, markPart, announcementAside, lasts, answeredPotential}
 use Rattle.machine.proofs.Invariant.Guarantee.{value-found, mark-found}
 use Rattle.machine.proofs.Potential.Readings.{lost-word}
 use Rattle.machine.proofs.Potential.EffectTable.{EffectRow}
@@ -183,12 +184,12 @@ module _ (n i : ℕ) (lt : i < n) (c : Config) (m′ : Memory) (t′ : Task) (p 
   -- The announcement of task t, seen by another task p.
   pub marks-stay : {s : EffectRow} (t : ℕ) → i ≢ p → AnnouncementChange (c .memory) m′ i t s
       → ((x : ℕ) → x ≢ i → (w : Work) → content m′ t ≡ content (c .memory) t → inAnnouncement m′ x t ≡ inAnnouncement (c .memory) x t → changesLeft m′ x t w ≤ changesLeft (c .memory) x t w)
-      → changesLeft m′ i t (row (t′ .phase) .work) + one (s .marks i t) ≤ changesLeft (c .memory) i t (row (c .task i .phase) .work) + 4 * one (s .writes i t)
+      → changesLeft m′ i t (row (t′ .phase) .work) + bit (s .marks i t) ≤ changesLeft (c .memory) i t (row (c .task i .phase) .work) + 4 * bit (s .writes i t)
       → MarkDue n c c′ p t
   marks-stay t d (rewritten w f) g h = over (f p)
   marks-stay {s} t d (kept w v a f) g h =
-      goes-on (5 * one (s .marks i t)) (a p (λ z. d (sym z)))
-      (omega (arith, rw (if-neg (ℕ-discrete i p) d 0 (one (s .marks i t))) at (changes-fall t (one (s .marks i t)) (λ x k u. g x k u v (a x k)) (omega (arith, rw w at h)))))
+      goes-on (5 * bit (s .marks i t)) (a p (λ z. d (sym z)))
+      (omega (arith, rw (if-neg (ℕ-discrete i p) d 0 (bit (s .marks i t))) at (changes-fall t (bit (s .marks i t)) (λ x k u. g x k u v (a x k)) (omega (arith, rw w at h)))))
       f
 
   -- Its own announcement part stays while the cells do.

@@ -5,6 +5,7 @@ use mathlib.Core.Logic.{_≢_}
 use Prim.Native.Nat.{ℕ, _+_, _*_, _≤_}
 use native.Mathlib.Decide.{ℕ-discrete}
 use native.Mathlib.Omega.{arith}
+use Rattle.laws.specs.Bit.{bit}
 use Rattle.laws.specs.Decision.{decided}
 use Rattle.laws.proofs.Update.{update-other}
 use Rattle.laws.proofs.Choice.{pick-le, skip-le}
@@ -13,13 +14,13 @@ use Rattle.machine.specs.Outcome.{Outcome}
 use Rattle.machine.specs.Object.{Object}
 use Rattle.machine.specs.Memory.{Content, Cell, Memory}
 use Rattle.machine.specs.Invariant.{inHead, inAnnouncement, headValue, content}
-use Rattle.machine.specs.Potential.{Work, one, waiting, holds, approaches, worksFor, changesDue, changesLeft}
+use Rattle.machine.specs.Potential.{Work, waiting, holds, approaches, worksFor, changesDue, changesLeft}
 use Rattle.machine.proofs.Steps.Effect.{Effect, Cleared, Applied, effect, withAnnouncement, Allowed}
 use Rattle.machine.proofs.Invariant.Guarantee.{value-found}
 use Rattle.machine.proofs.Potential.Readings.{waiting-not, resp-not-op}
 use Rattle.machine.proofs.Potential.EffectOnOthers.{OrdinaryOrStage, ordinary, clears, applies, hands-over}
 
-first-le : (x y : Bool) → cond x 2 (one y) ≤ 2
+first-le : (x y : Bool) → cond x 2 (bit y) ≤ 2
 first-le true y = omega arith
 first-le false y = omega (arith, pick-le y 1)
 
@@ -32,13 +33,13 @@ changes-most m x t w = omega (arith, first-le (approaches t w) (inAnnouncement m
 -- ---- By the task itself; d decides whether its target is t
 
 -- It links the head of its target, and approaches.
-pub link-changes : {P : Type 0} (d : Dec P) (a w : Bool) → cond (decided d) 2 (one a) + cond (decided d && (decided d && true)) 0 (cond (w || decided d) 2 0) ≤ one a + cond (w || decided d) 2 0
+pub link-changes : {P : Type 0} (d : Dec P) (a w : Bool) → cond (decided d) 2 (bit a) + cond (decided d && (decided d && true)) 0 (cond (w || decided d) 2 0) ≤ bit a + cond (w || decided d) 2 0
 link-changes (yes e) a true = omega arith
 link-changes (yes e) a false = omega arith
 link-changes (no n) a w = omega arith
 
 -- It marks the announcement of its target; a, a′: its mark there, before and after.
-pub mark-changes : {P : Type 0} (d : Dec P) (a a′ : Bool) (s : ℕ) → ((P → ⊥) → a′ ≡ a) → one a′ + s + one (decided d) ≤ cond (decided d) 2 (one a) + s
+pub mark-changes : {P : Type 0} (d : Dec P) (a a′ : Bool) (s : ℕ) → ((P → ⊥) → a′ ≡ a) → bit a′ + s + bit (decided d) ≤ cond (decided d) 2 (bit a) + s
 mark-changes (yes e) a a′ s f = omega (arith, pick-le a′ 1)
 mark-changes (no n) a a′ s f = rw (f n) (omega arith)
 
@@ -48,7 +49,7 @@ miss-changes (yes e) x s h = omega arith
 miss-changes (no n) x s h = omega arith
 
 -- It takes its mark away.
-pub unmark-changes : {P : Type 0} (d : Dec P) (a a′ : Bool) (s : ℕ) → (P → a ≡ true) → (P → a′ ≡ false) → ((P → ⊥) → a′ ≡ a) → one a′ + s + one (decided d) ≤ one a + s
+pub unmark-changes : {P : Type 0} (d : Dec P) (a a′ : Bool) (s : ℕ) → (P → a ≡ true) → (P → a′ ≡ false) → ((P → ⊥) → a′ ≡ a) → bit a′ + s + bit (decided d) ≤ bit a + s
 unmark-changes (yes e) a a′ s f g k = rw (f e, g e) (omega arith)
 unmark-changes (no n) a a′ s f g k = rw (k n) (omega arith)
 
@@ -61,10 +62,10 @@ lost-changes false y s = omega arith
 -- ---- By anybody
 
 -- Another announcement is written.
-pub written-changes : (m : Memory) (j : ℕ) (a : Cell Content) (x t : ℕ) (w : Work) → changesLeft (withAnnouncement m j a) x t w ≤ changesLeft m x t w + 4 * one (decided (ℕ-discrete j t))
+pub written-changes : (m : Memory) (j : ℕ) (a : Cell Content) (x t : ℕ) (w : Work) → changesLeft (withAnnouncement m j a) x t w ≤ changesLeft m x t w + 4 * bit (decided (ℕ-discrete j t))
 written-changes m j a x t w = go (ℕ-discrete j t)
   where
-    go : (d : Dec (j ≡ t)) → changesLeft (withAnnouncement m j a) x t w ≤ changesLeft m x t w + 4 * one (decided d)
+    go : (d : Dec (j ≡ t)) → changesLeft (withAnnouncement m j a) x t w ≤ changesLeft m x t w + 4 * bit (decided d)
     go (yes e) = omega (arith, changes-most (withAnnouncement m j a) x t w)
     go (no d) =
         let same = update-other (m .announcement) j a t d in

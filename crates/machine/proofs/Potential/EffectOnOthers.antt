@@ -5,6 +5,7 @@ use mathlib.Core.Logic.{_≢_}
 use Prim.Native.Nat.{ℕ, _+_, _*_, _≤_}
 use native.Mathlib.Decide.{ℕ-discrete}
 use native.Mathlib.Omega.{arith}
+use Rattle.laws.specs.Bit.{bit}
 use Rattle.laws.specs.Decision.{decided}
 use Rattle.laws.proofs.Update.{update-all, update-same, update-other}
 use Rattle.laws.proofs.Choice.{pick-le}
@@ -15,7 +16,7 @@ use Rattle.machine.specs.Object.{Object}
 use Rattle.machine.specs.Memory.{HeadValue, Held, Content, Empty, Op, Resp, Cell, Memory, unmarked, head-dec, announcement-dec}
 use Rattle.machine.specs.Machine.{linked, released}
 use Rattle.machine.specs.Invariant.{inHead, inAnnouncement, headValue, content, NotHolder}
-use Rattle.machine.specs.Potential.{Compared, NoWord, HeadWord, AnnouncementWord, one, stale}
+use Rattle.machine.specs.Potential.{Compared, NoWord, HeadWord, AnnouncementWord, stale}
 use Rattle.machine.proofs.Steps.Effect.{Effect, Unchanged, Linked, Released, Cleared, Retracted, Applied, LinkedAt, ReleasedAt, HandedOver, Announced, effect, withHead, withAnnouncement, Allowed}
 use Rattle.machine.proofs.Invariant.Guarantee.{value-found}
 use Rattle.machine.proofs.Potential.EffectTable.{EffectRow, effectRow}
@@ -42,7 +43,7 @@ pub record Ordinary (m m′ : Memory) (i : ℕ) (k : EffectRow) : Type 0 where
   pub value : headValue m′ ≡ headValue m
   pub marks : (x : ℕ) → x ≢ i → inHead m′ x ≡ inHead m x
   -- The own mark comes into the head by a link alone.
-  pub own : one (inHead m′ i) ≤ one (inHead m i) + one (k .links)
+  pub own : bit (inHead m′ i) ≤ bit (inHead m i) + bit (k .links)
   -- The announcements of the other tasks, and of the holder, keep their contents.
   pub contents : (x : ℕ) → x ≢ i → content m′ x ≡ content m x
   pub holder : (q j : ℕ) (r : Outcome) → headValue m ≡ Held q j r → content m′ j ≡ content m j
@@ -51,7 +52,7 @@ pub record Ordinary (m m′ : Memory) (i : ℕ) (k : EffectRow) : Type 0 where
 
 module _ (m : Memory) (i : ℕ) where
   -- Other marks in the head.
-  head-ordinary : (v : ℕ) (k : EffectRow) → k .stage ≡ 0 → ((x : ℕ) → x ≢ i → has x v ≡ inHead m x) → one (has i v) ≤ one (inHead m i) + one (k .links)
+  head-ordinary : (v : ℕ) (k : EffectRow) → k .stage ≡ 0 → ((x : ℕ) → x ≢ i → has x v ≡ inHead m x) → bit (has i v) ≤ bit (inHead m i) + bit (k .links)
       → ((w : Compared) → stale (withHead m (record { value = headValue m; marks = v })) w ≤ stale m w + k .cost (inHead m i))
       → Ordinary m (withHead m (record { value = headValue m; marks = v })) i k
   head-ordinary v k s f o w = record {
@@ -127,7 +128,7 @@ ordinary-or-stage b m i (Announced o) a = ordinary (own-ordinary m i (Op o) (eff
 pub data AnnouncementChange (m m′ : Memory) (i t : ℕ) (k : EffectRow) : Type 0 where
   rewritten : k .writes i t ≡ true → ((x : ℕ) → inAnnouncement m′ x t ≡ false) → AnnouncementChange m m′ i t k
   kept : k .writes i t ≡ false → content m′ t ≡ content m t → ((x : ℕ) → x ≢ i → inAnnouncement m′ x t ≡ inAnnouncement m x t)
-      → ((a : Cell Content) → stale m′ (AnnouncementWord t a) ≤ stale m (AnnouncementWord t a) + 5 * one (k .marks i t))
+      → ((a : Cell Content) → stale m′ (AnnouncementWord t a) ≤ stale m (AnnouncementWord t a) + 5 * bit (k .marks i t))
       → AnnouncementChange m m′ i t k
 
 module _ (m : Memory) (i t : ℕ) where
@@ -139,7 +140,7 @@ module _ (m : Memory) (i t : ℕ) where
         → AnnouncementChange m (withAnnouncement m j (record { value = content m j; marks = v })) i t k
     marked-change v f w e = kept w (remarked m i j v t) (λ x d. update-all (m .announcement) j _ (λ t (a : Cell Content). has x (a .marks) ≡ inAnnouncement m x t) (f x d) (λ _ _. refl) t) (λ a. rw e (words a (ℕ-discrete j t)))
       where
-        words : (a : Cell Content) (d : Dec (j ≡ t)) → stale (withAnnouncement m j (record { value = content m j; marks = v })) (AnnouncementWord t a) ≤ stale m (AnnouncementWord t a) + 5 * one (decided d)
+        words : (a : Cell Content) (d : Dec (j ≡ t)) → stale (withAnnouncement m j (record { value = content m j; marks = v })) (AnnouncementWord t a) ≤ stale m (AnnouncementWord t a) + 5 * bit (decided d)
         words a (yes e) = omega (arith, stale-most (withAnnouncement m j (record { value = content m j; marks = v })) (AnnouncementWord t a))
         words a (no d) = rw (update-other (m .announcement) j (record { value = content m j; marks = v }) t d) (omega arith)
 

@@ -5,6 +5,7 @@ use mathlib.Core.Logic.{_≢_, if-pos}
 use Prim.Native.Nat.{ℕ, _+_, _*_, _≤_, _<_}
 use native.Mathlib.Decide.{ℕ-discrete}
 use native.Mathlib.Omega.{arith}
+use Rattle.laws.specs.Bit.{bit}
 use Rattle.laws.proofs.Clash.{clash, never}
 use Rattle.laws.proofs.Update.{update-same, update-other}
 use Rattle.laws.proofs.Sums.{but-at-most}
@@ -16,7 +17,7 @@ use Rattle.machine.specs.Machine.{Task, Next, phaseOf, turns, advance}
 use Rattle.machine.specs.Kind.{Kind, Off, Reading, Opening, Looping, Exiting, Retracting, kind}
 use Rattle.machine.specs.Run.{Config}
 use Rattle.machine.specs.Invariant.{inHead, headValue, content, IsResp, OwnContent, Safe}
-use Rattle.machine.specs.Potential.{row, one, answered, held, holds, dists, placeOf, waitingPotential, atHead, headLoad, headPart, markPart, lasts, answeredPotential, announcedPotential, potentialBy, potential}
+use Rattle.machine.specs.Potential.{row, answered, held, holds, dists, placeOf, waitingPotential, atHead, headLoad, headPart, markPart, lasts, answeredPotential, announcedPotential, potentialBy, potential}
 use Rattle.machine.proofs.Steps.Effect.{Effect, Applied, HandedOver, Announced, effect, Allowed}
 use Rattle.machine.proofs.Steps.Successor.{moved, Steps}
 use Rattle.machine.proofs.Invariant.Rely.{relies}
@@ -31,18 +32,18 @@ use Rattle.machine.proofs.Potential.Waiting.{Pays, share, dists-fall, s
 use Rattle.machine.proofs.Potential.Answered.{due-part, HeadDue, NeitherRises, lasts-no-longer, head-most, mark-most, answered-most, load-stays, head-stays, marks-stay, mark-same}
 use Rattle.machine.proofs.Potential.StageChanges.{clear-keeps-turn, hand-over-keeps-turn, apply-rank, clear-rank, announces-polls, apply-turns, ranks-unmarked, clear-head, apply-head, rank-rises, hand-over-load, hand-over-head}
 
-false-of : (x : Bool) → one x ≤ 0 → x ≡ false
+false-of : (x : Bool) → bit x ≤ 0 → x ≡ false
 false-of true h = absurd (omega arith)
 false-of false h = refl
 
-or-one : (x x′ y : Bool) (k : ℕ) → one x′ ≤ one x + k → one (x′ || y) ≤ one (x || y) + k
-or-one true true y k h = omega arith
-or-one true false y k h = omega (arith, pick-le y 1)
-or-one false true y k h = omega arith
-or-one false false y k h = omega arith
+or-bit : (x x′ y : Bool) (k : ℕ) → bit x′ ≤ bit x + k → bit (x′ || y) ≤ bit (x || y) + k
+or-bit true true y k h = omega arith
+or-bit true false y k h = omega (arith, pick-le y 1)
+or-bit false true y k h = omega arith
+or-bit false false y k h = omega arith
 
 -- The part of the head that is due to the task that steps: only a link makes it due.
-own-due : (a a′ links : Bool) (s s′ most : ℕ) → s′ ≤ s → s′ ≤ most → one a′ ≤ one a + one links → cond a′ s′ 0 ≤ cond a s 0 + cond (links && not a) most 0
+own-due : (a a′ links : Bool) (s s′ most : ℕ) → s′ ≤ s → s′ ≤ most → bit a′ ≤ bit a + bit links → cond a′ s′ 0 ≤ cond a s 0 + cond (links && not a) most 0
 own-due true true l s s′ most x y z = omega arith
 own-due false true true s s′ most x y z = omega arith
 own-due false true false s s′ most x y z = omega arith
@@ -178,14 +179,14 @@ module _ (b : Object) (n i : ℕ) (lt : i < n) (c : Config) (safe : Safe c) (bel
   -- ---- The task that steps
 
   -- Its announcement keeps its content in an ordinary step, and its response in any.
-  own-stays : (e : Effect) → Ordinary m (effect i e m) i (effectRow e) → one (effectRow e .writes i i) ≤ effectRow e .stage → content (effect i e m) i ≡ content m i
+  own-stays : (e : Effect) → Ordinary m (effect i e m) i (effectRow e) → bit (effectRow e .writes i i) ≤ effectRow e .stage → content (effect i e m) i ≡ content m i
   own-stays e o h = go (announcement-change m i i e)
     where
       go : AnnouncementChange m (effect i e m) i i (effectRow e) → content (effect i e m) i ≡ content m i
       go (rewritten w f) = clash w (false-of (effectRow e .writes i i) (omega (arith, o .stage)))
       go (kept w v a f) = v
 
-  own-answered : {e : Effect} {r : Outcome} → OrdinaryOrStage b m i e → one (effectRow e .writes i i) ≤ effectRow e .stage → content m i ≡ Resp r → content (effect i e m) i ≡ Resp r
+  own-answered : {e : Effect} {r : Outcome} → OrdinaryOrStage b m i e → bit (effectRow e .writes i i) ≤ effectRow e .stage → content m i ≡ Resp r → content (effect i e m) i ≡ Resp r
   own-answered {e} (ordinary o) h f = own-stays e o h ∙ f
   own-answered (clears a) h f = f
   own-answered (applies a) h f = f
@@ -196,7 +197,7 @@ module _ (b : Object) (n i : ℕ) (lt : i < n) (c : Config) (safe : Safe c) (bel
   own-head {e} {y} v (ordinary o) r =
       own-due (atHead m i) (atHead (effect i e m) i) (effectRow e .links) _ _ (39 * n)
       (omega (arith, load-stays n i lt c (effect i e m) (advance n (c .task i) y) i o (paid v o))) (head-most n (after e y) i lt)
-      (rw (o .value) (or-one (inHead m i) (inHead (effect i e m) i) (holds i (headValue m)) (one (effectRow e .links)) (o .own)))
+      (rw (o .value) (or-bit (inHead m i) (inHead (effect i e m) i) (holds i (headValue m)) (bit (effectRow e .links)) (o .own)))
   own-head {y = y} v (clears a) r = omega (arith, due-part (clear-head b n i c i y))
   own-head {y = y} v (applies a) r = omega (arith, due-part (apply-head b n i c i y r a))
   own-head v (hands-over a) r = omega (arith, due-part (hand-over-head b n i c i v a))

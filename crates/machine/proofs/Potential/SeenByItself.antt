@@ -4,6 +4,7 @@ use mathlib.Core.Bool.{Bool, true, false, _&&_, _||_, not, cond}
 use Prim.Native.Nat.{ℕ, _+_, _*_, _≤_}
 use native.Mathlib.Decide.{ℕ-discrete}
 use native.Mathlib.Omega.{arith}
+use Rattle.laws.specs.Bit.{bit}
 use Rattle.laws.specs.Decision.{decided}
 use Rattle.laws.proofs.Update.{update-same}
 use Rattle.laws.proofs.Decision.{decided-yes}
@@ -15,7 +16,7 @@ use Rattle.machine.specs.Memory.{HeadValue, Held, Content, Cell, Memory,
 use Rattle.machine.specs.Machine.{Phase, Next, phaseOf, linked}
 use Rattle.machine.specs.Kind.{Kind, Off, Reading, Opening, Looping, Exiting, Retracting, kind}
 use Rattle.machine.specs.Invariant.{inHead, headValue, content, IsResp, HeldBy, TaskSafe}
-use Rattle.machine.specs.Potential.{Row, row, HeadWord, AnnouncementWord, one, stale, holds, placeOf, atHead, lasts}
+use Rattle.machine.specs.Potential.{Row, row, HeadWord, AnnouncementWord, stale, holds, placeOf, atHead, lasts}
 use Rattle.machine.proofs.Steps.Effect.{Effect, Unchanged, Retracted, LinkedAt, Announced, effect}
 use Rattle.machine.proofs.Steps.Branch.{Branch, stay-idle, read-only, announce, poll-response, poll-waits, load-head, link-free, link-held, link-fails, priority-waits, priority-rests, own-waits, own-response, own-empty, apply, apply-fails, reload-apply, reload-apply-lost, load-helped, link-helped, link-rested, link-helped-fails, validate, validate-fails, hand-over, hand-over-fails, reload-hand-over, reload-hand-over-lost, release, release-fails, reload-release, reload-release-lost, clear, clear-fails, reload-clear, reload-clear-lost, exit-clear, exit-release, exit-link, exit-retract, link-exit, link-exit-fails, clear-exit, clear-exit-fails, release-exit, release-exit-fails, retract}
 use Rattle.machine.proofs.Invariant.Guarantee.{value-found, not-empty}
@@ -41,7 +42,7 @@ Falls n i m m′ h h′ g g′ f f′ e = record {
   after : Busy (kind f′);
   place : placeOf m′ i (row f′) + 1 ≤ placeOf m i (row f) + effectRow e .stage;
   last : IsResp (content m i) → lasts n h′ g′ m′ (row f′) + 1 ≤ lasts n h g m (row f);
-  writes : one (effectRow e .writes i i) ≤ effectRow e .stage;
+  writes : bit (effectRow e .writes i i) ≤ effectRow e .stage;
 }
 
 -- Where a step stands in its operation: F holds of every step but the first and the last.

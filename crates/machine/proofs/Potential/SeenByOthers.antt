@@ -5,6 +5,7 @@ use mathlib.Core.Logic.{_≢_}
 use Prim.Native.Nat.{ℕ, _+_, _*_, _≤_}
 use native.Mathlib.Decide.{ℕ-discrete}
 use native.Mathlib.Omega.{arith}
+use Rattle.laws.specs.Bit.{bit}
 use Rattle.laws.specs.Decision.{decided}
 use Rattle.laws.proofs.Update.{update-same, update-other}
 use Rattle.cells.specs.Marks.{has, add, remove}
@@ -13,7 +14,7 @@ use Rattle.machine.specs.Object.{Object}
 use Rattle.machine.specs.Memory.{Content, Empty, Op, Resp, Cell, Memory, unmarked, outcomeOf}
 use Rattle.machine.specs.Machine.{Phase, Poll, ClearHead, Next, phaseOf, turns, released}
 use Rattle.machine.specs.Invariant.{inHead, inAnnouncement, headValue, content, TaskSafe}
-use Rattle.machine.specs.Potential.{Row, row, Elsewhere, Applying, Finishing, one, answered, waiting, held, holds, dist, changesDue, changesLeft}
+use Rattle.machine.specs.Potential.{Row, row, Elsewhere, Applying, Finishing, answered, waiting, held, holds, dist, changesDue, changesLeft}
 use Rattle.machine.proofs.Steps.Effect.{Effect, LinkedAt, ReleasedAt, Announced, effect, withAnnouncement, Allowed}
 use Rattle.machine.proofs.Steps.Branch.{Branch, stay-idle, read-only, announce, poll-response, poll-waits, load-head, link-free, link-held, link-fails, priority-waits, priority-rests, own-waits, own-response, own-empty, apply, apply-fails, reload-apply, reload-apply-lost, load-helped, link-helped, link-rested, link-helped-fails, validate, validate-fails, hand-over, hand-over-fails, reload-hand-over, reload-hand-over-lost, release, release-fails, reload-release, reload-release-lost, clear, clear-fails, reload-clear, reload-clear-lost, exit-clear, exit-release, exit-link, exit-retract, link-exit, link-exit-fails, clear-exit, clear-exit-fails, release-exit, release-exit-fails, retract}
 use Rattle.machine.proofs.Invariant.Guarantee.{value-found, mark-found, not-empty}
@@ -30,9 +31,9 @@ use Rattle.machine.proofs.Potential.ChangesLeft.{due-most, link-changes
 abbrev pub Seen : (m m′ : Memory) (i k n p t : ℕ) → Row → Row → Effect → Next → Type 0
 Seen m m′ i k n p t r r′ e y = record {
   rank : r′ .rank (held (headValue m′)) (inHead m′ i) (answered (content m′ i)) + effectRow e .cost (inHead m i) ≤ r .rank (held (headValue m)) (inHead m i) (answered (content m i)) + 9 * effectRow e .stage;
-  turn : one (turns y) ≤ effectRow e .stage;
+  turn : bit (turns y) ≤ effectRow e .stage;
   distance : dist n p k (r′ .work) ≤ dist n p k (r .work) + cond (waiting (content m p)) 0 n;
-  changes : changesLeft m′ i t (r′ .work) + one (effectRow e .marks i t) ≤ changesLeft m i t (r .work) + 4 * one (effectRow e .writes i t);
+  changes : changesLeft m′ i t (r′ .work) + bit (effectRow e .marks i t) ≤ changesLeft m i t (r .work) + 4 * bit (effectRow e .writes i t);
 }
 
 module _ (b : Object) (m : Memory) (i k o n p t : ℕ) (ex : Extra (held (headValue m)) (inHead m i) (answered (content m i))) where
@@ -49,10 +50,10 @@ module _ (b : Object) (m : Memory) (i k o n p t : ℕ) (ex : Extra (held (headVa
   away : (j v : ℕ) → j ≢ t → inAnnouncement (withAnnouncement m j (record { value = content m j; marks = v })) i t ≡ inAnnouncement m i t
   away j v d = ap (λ (s : Cell Content). has i (s .marks)) (update-other (m .announcement) j (record { value = content m j; marks = v }) t d)
 
-  marks-at : (j : ℕ) → one (mark-after (LinkedAt j)) + kept-due j + one (decided (ℕ-discrete j t)) ≤ cond (decided (ℕ-discrete j t)) 2 (one (inAnnouncement m i t)) + kept-due j
+  marks-at : (j : ℕ) → bit (mark-after (LinkedAt j)) + kept-due j + bit (decided (ℕ-discrete j t)) ≤ cond (decided (ℕ-discrete j t)) 2 (bit (inAnnouncement m i t)) + kept-due j
   marks-at j = mark-changes (ℕ-discrete j t) (inAnnouncement m i t) (mark-after (LinkedAt j)) (kept-due j) (away j (add i (m .announcement j .marks)))
 
-  unmarks-at : (j : ℕ) → inAnnouncement m i j ≡ true → one (mark-after (ReleasedAt j)) + kept-due j + one (decided (ℕ-discrete j t)) ≤ one (inAnnouncement m i t) + kept-due j
+  unmarks-at : (j : ℕ) → inAnnouncement m i j ≡ true → bit (mark-after (ReleasedAt j)) + kept-due j + bit (decided (ℕ-discrete j t)) ≤ bit (inAnnouncement m i t) + kept-due j
   unmarks-at j y = unmark-changes (ℕ-discrete j t) (inAnnouncement m i t) (mark-after (ReleasedAt j)) (kept-due j) (λ z. rw z at y) (λ z. rw (← z) gone) (away j (remove i (m .announcement j .marks)))
     where
       gone : inAnnouncement (effect i (ReleasedAt j) m) i j ≡ false
