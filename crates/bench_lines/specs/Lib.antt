@@ -1,2 +1,3 @@
 pub mod Command
 pub mod Line
+pub mod Cases

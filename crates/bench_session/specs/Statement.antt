@@ -14,7 +14,7 @@ use Rattle.bench_lines.specs.Line.{newline}
 use Rattle.bench_session.specs.Session.{isServed, tableText, outputOf, Fed, newSession, andThen, feed, finishText}
 
 -- How `d t` ends, by the reply of its first step: one that ends the operation or is refused is the last; after one that
--- answers running the operation ends with a response and whether the state moved.
+-- answers running the last is one that ends the operation, with some response and a yes or no.
 abbrev pub EndsBy : ℕ → (first last : Reply) → Type 0
 EndsBy t reply.Silent last = (r : ℕ) × (v : Bool) × (last ≡ reply.Ended t r v)
 EndsBy t (reply.Started k s m) last = ⊥
