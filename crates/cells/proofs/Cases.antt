@@ -1,4 +1,4 @@
--- The marked cases about cells and ceiling hold.
+-- The cases about cells and ceiling hold.
 use mathlib.Core.Path.{_≡_, refl}
 use mathlib.Core.List.{map}
 use Rattle.laws.specs.Case.{case}

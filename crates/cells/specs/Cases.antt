@@ -1,5 +1,5 @@
--- docs/FORMATS.md, "Cases": the marked cases about cells and ceiling, and those about the bit that says whether the state moved. The
--- table of all cases, which needs later definitions, is that of the crate stepping.
+-- docs/FORMATS.md, "Cases": the cases about cells and ceiling. The table of all cases, which needs later definitions, is that of the
+-- crate stepping.
 use mathlib.Core.Bool.{true, false}
 use mathlib.Core.List.{List, [], _∷_}
 use Prim.Native.Nat.{ℕ}

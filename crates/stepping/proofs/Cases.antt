@@ -1,4 +1,4 @@
--- All marked cases hold.
+-- All cases of the table hold.
 use mathlib.Core.Path.{_≡_, refl, sym, _∙_, ap₂}
 use mathlib.Core.List.{List, _++_, map, map-append}
 use Rattle.laws.specs.Below.{allBelow}

@@ -1,5 +1,5 @@
--- docs/FORMATS.md, "Cases": every marked case, as one table about the definitions. Those of the file stand in the crate table, those of
--- the cells in the crate cells.
+-- docs/FORMATS.md, "Cases": every case of the page's table, as one table about the definitions. Those of the file stand in the crate
+-- table, those of the cells in the crate cells.
 use Prim.Native.Nat.{ℕ}
 use mathlib.Core.List.{List, [], _∷_, _++_}
 use lib.ListN.{replicate}
@@ -19,6 +19,6 @@ callCases =
     ∷ case (started 9) 5
     ∷ []
 
--- All marked cases.
+-- All cases of the table.
 unfoldable pub cases : List Case
 cases = fileCases ++ cellCases ++ callCases

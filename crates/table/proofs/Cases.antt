@@ -1,4 +1,4 @@
--- The marked cases about the object file hold.
+-- The cases about the object file hold.
 use mathlib.Core.Path.{_≡_, refl}
 use mathlib.Core.List.{map}
 use Rattle.laws.specs.Below.{allBelow, anyBelow}

@@ -1,5 +1,5 @@
--- docs/FORMATS.md, "Cases": the marked cases about the object file. The table of all marked cases, which needs later
--- definitions, is that of the crate stepping.
+-- docs/FORMATS.md, "Cases": the cases about the object file. The table of all cases, which needs later definitions, is that of the
+-- crate stepping.
 use Prim.Native.Nat.{ℕ, _*_, _/_, _%_}
 use mathlib.Core.List.{List, [], _∷_, _++_}
 use lib.ListN.{replicate, drop, set}
