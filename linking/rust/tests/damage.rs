@@ -1,5 +1,5 @@
-//! Runs whose cells, records or table are damaged by one bit: every call's answer, cells and row compared with the
-//! second program.
+//! Runs whose cells, records or table are damaged by one bit, or whose cells and saved words are by the same bit: every
+//! call's answer, cells and row compared with the second program.
 
 mod both;
 mod random_calls;
@@ -110,16 +110,35 @@ fn damaged_runs_answer_as_the_second_program() {
     }
 }
 
-/// Makes a task's step once for each bit of the cells and of its record, with that bit changed; adds the phase in which an
-/// operation ended, and whether the state moved.
+/// For a bit of a cell, the same bit of the word that a record has saved of that cell.
+fn saved_bit(bit: usize) -> usize {
+    match bit / BITS_OF_CELL {
+        0 => bit,
+        _ => BITS_OF_CELL + bit % BITS_OF_CELL,
+    }
+}
+
+/// What is lent with each bit of the cells changed, each of a task's record, and each of a cell and of its saved word alike,
+/// so that a swap still finds the word that it compares with.
+fn with_each_bit(lent: &Lent, task: usize) -> impl Iterator<Item = Lent> + '_ {
+    let cells = (0..BITS_OF_CELL * lent.cells.len()).map(|bit| (Some(bit), None));
+    let record = (0..BITS_OF_RECORD).map(|bit| (None, Some(bit)));
+    let alike = (0..BITS_OF_CELL * lent.cells.len()).map(|bit| (Some(bit), Some(saved_bit(bit))));
+    cells
+        .chain(record)
+        .chain(alike)
+        .map(move |(in_cells, in_record)| {
+            let mut damaged = lent.clone();
+            in_cells.inspect(|bit| flip_in_cells(&mut damaged.cells, *bit));
+            in_record.inspect(|bit| flip_in_record(&mut damaged.row[task], *bit));
+            damaged
+        })
+}
+
+/// Makes a task's step once for each way to change a bit; adds the phase in which an operation ended, and whether the state
+/// moved.
 fn step_with_each_bit(lent: &Lent, task: usize, ends: &mut BTreeSet<(u32, bool)>) {
-    let bits_of_cells = BITS_OF_CELL * lent.cells.len();
-    for bit in 0..bits_of_cells + BITS_OF_RECORD {
-        let mut damaged = lent.clone();
-        match bit.checked_sub(bits_of_cells) {
-            None => flip_in_cells(&mut damaged.cells, bit),
-            Some(bit) => flip_in_record(&mut damaged.row[task], bit),
-        }
+    for mut damaged in with_each_bit(lent, task) {
         let phase = damaged.row[task].phase;
         if let Ok(Progress::Ended { moved, .. }) = damaged.step(task) {
             ends.insert((phase, moved));

@@ -45,7 +45,8 @@ fn records() -> Vec<Task> {
     [plain_records(), records_that_moved()].concat()
 }
 
-/// Records with the moved bit of a saved word, in LinkHead and HandOver, or of the payload, in Retract.
+/// Records with the moved bit of a saved word, in LinkHead, HandOver and Apply of a set, or of the payload, in Retract. An Apply
+/// that finds a holder in its saved head is in form, though no run leads to it.
 fn records_that_moved() -> Vec<Task> {
     let saved = |phase, head, announcement| Task {
         head,
@@ -56,11 +57,17 @@ fn records_that_moved() -> Vec<Task> {
         payload,
         ..pending(12)
     };
+    let applying = |head| Task {
+        payload: 1,
+        ..saved(16, head, 0)
+    };
     vec![
         saved(5, 0x1000_0000, 0),
         saved(5, 0x1100_0000, 0),
         saved(56, 0, 0x100_0100),
         saved(56, 0, 0x100_0200),
+        applying(0x100_0000),
+        applying(0x1100_0000),
         leaving(0x1_0001),
         leaving(0xffff_0001),
     ]
