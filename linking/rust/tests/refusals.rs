@@ -69,7 +69,7 @@ fn records_that_moved() -> Vec<Task> {
         applying(0x100_0000),
         applying(0x1100_0000),
         leaving(0x1_0001),
-        leaving(0xffff_0001),
+        leaving(0xfffe_0001),
     ]
 }
 
