@@ -1,20 +1,21 @@
 /*
  * The drive object for kernels in C: a table of states and operations that up to eight tasks share through 64-bit
- * cells. Link with libdrive_object.a. docs/LINKING.md is the page about linking; table files, cells and refusals stand
- * in docs/FORMATS.md, runs and steps in docs/RUNS.md.
+ * cells; and the ring desk, which tells what ring owns a chainage and writes the table of a drive. Link with
+ * libdrive_object.a. docs/LINKING.md is the page about linking; table files, cells and refusals stand in
+ * docs/FORMATS.md, runs and steps in docs/RUNS.md.
  *
  * What the caller owes, at every call:
- *  - Lent memory is valid for the whole call, to its given length: `file` to be read, `cells`, `row` and the one record
- *    `own` to be read and written. Cells, row and record are aligned to 8 bytes and hold values. With length 0 a
- *    pointer may have any value; the one to a record is always valid.
- *  - File, cells, row and record do not overlap, and nobody else writes them during the call.
+ *  - Lent memory is valid for the whole call, to its given length: `file` and `rings` to be read, `cells`, `row`, the
+ *    one record `own` and `room` to be read and written. Cells, row and record are aligned to 8 bytes, rings to 4, and
+ *    all of these hold values. With length 0 a pointer may have any value; the one to a record is always valid.
+ *  - File, cells, row and record do not overlap, nor do rings and room, and nobody else writes them during the call.
  *  - Begin and step are called with switching closed: one call ends before the next one starts.
  *  - Handlers that run on the caller's stack leave the 128 bytes below the stack pointer alone.
  * Within a run (an accepted start and the begins and steps after it) nothing but the calls writes cells, row or
  * table, and every call is lent the same ones. A kernel may instead keep each record with its task: it takes them out
  * of the row after start, and makes every call for a task with the task's record and the row's number of records.
- * Nothing is asked of task, operation or any length: a call that can't be served is refused. A call keeps no pointer
- * and allocates nothing; start calls memset, and no call anything else.
+ * Nothing is asked of task, operation, chainage or any length: a call that can't be served is refused. A call keeps no
+ * pointer and allocates nothing; start calls memset, and no call anything else.
  *
  * Every call answers with one word, which the drive_answer functions below read. Byte 0, the lowest, is 0 if the call
  * is accepted, else the number of the first cause that holds; then everything lent is left as it was. Bits 2 to 7 of
@@ -38,7 +39,10 @@ extern "C" {
 /* The longest table file in bytes. */
 #define DRIVE_LONGEST_FILE 20496
 
-/* Why a call is not served; docs/FORMATS.md, "When a call is not served". */
+/* The most rings of a list. */
+#define DRIVE_MOST_RINGS 255
+
+/* Why a call is not served; docs/FORMATS.md, "When a call is not served". 13 is the bench's own. */
 enum drive_refusal {
     DRIVE_FILE = 1,        /* file under 16 or over 20,496 bytes, or mark wrong */
     DRIVE_DIMENSIONS = 2,  /* states or operations out of range, or start state not below states */
@@ -51,7 +55,10 @@ enum drive_refusal {
     DRIVE_PENDING = 9,     /* begin with an operation pending */
     DRIVE_IDLE = 10,       /* step with none pending */
     DRIVE_RECORD = 11,     /* record out of the forms in docs/RECORDS.md */
-    DRIVE_CELL = 12        /* touched cell out of form */
+    DRIVE_CELL = 12,       /* touched cell out of form */
+    DRIVE_RINGS = 14,      /* list not of 1 to 255 whole rings, or a length or kind out of range */
+    DRIVE_CHAINAGE = 15,   /* chainage that no ring owns */
+    DRIVE_ROOM = 16        /* lent room shorter than what is to be written */
 };
 
 /* The private record of a task, whose number is its place in the row. Start fills it; only the calls write it. The
@@ -122,6 +129,24 @@ uint64_t drive_step_record(const uint8_t *file, size_t file_length, uint64_t *ce
  */
 uint64_t drive_ceiling(size_t task_count);
 
+/*
+ * Which ring owns a chainage in millimetres. `rings` is a list of 1 to 255 rings in 32-bit words, two for each ring: its
+ * length in millimetres, 1 to 20,000, and its kind, 0 ordinary or 1 key; `word_count` is the number of words. Ring 1
+ * begins at chainage 0, each other one at the end of the one before. An ordinary ring owns its start and not its end, a
+ * key ring owns both; if two own the chainage, the lower number is given. Tests 14 on the whole list, then 15. Writes
+ * nothing. Answers the number of the ring, from 1. Its cost grows with the number of rings.
+ */
+uint64_t desk_owner(const uint32_t *rings, size_t word_count, uint64_t chainage);
+
+/*
+ * Writes the table file of the drive with these rings, a list as for desk_owner: state k is k rings built, the start
+ * state is 0; operation 0 reads, 1 builds a ring, 2 takes one out; the response is k before the operation. Tests 14 on
+ * the whole list, then 16. The file has 6 bytes for each ring and 22 more. It is written at the beginning of the room,
+ * which may hold anything before; the rest of the room is left as it was. Answers the length of the file in bytes. Its
+ * cost grows with the number of rings.
+ */
+uint64_t desk_table(const uint32_t *rings, size_t word_count, uint8_t *room, size_t room_length);
+
 /* Of any answer: 0 if the call was accepted, else the cause, one of enum drive_refusal. */
 static inline unsigned drive_answer_refusal(uint64_t answer) { return (unsigned)(answer & 0xff); }
 
@@ -149,6 +174,12 @@ static inline uint16_t drive_answer_start_state(uint64_t answer) { return (uint1
 
 /* Of an accepted ceiling: the number of own steps. */
 static inline uint32_t drive_answer_ceiling(uint64_t answer) { return (uint32_t)(answer >> 32); }
+
+/* Of an accepted owner: the number of the ring, from 1. */
+static inline uint16_t drive_answer_ring(uint64_t answer) { return (uint16_t)(answer >> 16); }
+
+/* Of an accepted call that writes into a lent room: the length of what it wrote, of a file in bytes. */
+static inline uint32_t drive_answer_length(uint64_t answer) { return (uint32_t)(answer >> 32); }
 
 #ifdef __cplusplus
 }

@@ -40,6 +40,18 @@ static void read_ceiling(uint64_t reserved) {
     assert(drive_answer_ceiling(ceiling) == 0x12345678);
 }
 
+static void read_owner(uint64_t reserved) {
+    uint64_t owner = UINT64_C(0x12345678abcd0000) | reserved;
+    assert(drive_answer_refusal(owner) == 0);
+    assert(drive_answer_ring(owner) == 0xabcd);
+}
+
+static void read_written(uint64_t reserved) {
+    uint64_t written = UINT64_C(0x12345678abcd0000) | reserved;
+    assert(drive_answer_refusal(written) == 0);
+    assert(drive_answer_length(written) == 0x12345678);
+}
+
 static void read_refusals(uint64_t reserved) {
     for (unsigned number = 1; number <= UINT8_MAX; number++) {
         assert(drive_answer_refusal(number | reserved) == number);
@@ -54,6 +66,8 @@ int main(void) {
         read_step(reserved);
         read_check(reserved);
         read_ceiling(reserved);
+        read_owner(reserved);
+        read_written(reserved);
         read_refusals(reserved);
     }
     return EXIT_SUCCESS;

@@ -10,6 +10,8 @@ pub mod cells;
 pub mod compare_bench;
 pub mod compare_tables;
 mod configuration;
+pub mod desk;
+pub mod desk_cases;
 mod estimate;
 pub mod exploration;
 mod explore;

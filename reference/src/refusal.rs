@@ -28,6 +28,12 @@ pub enum Refusal {
     Cell,
     /// Bench line of no known form, or one that comes before the run is started.
     Line,
+    /// List of 0 or over 255 rings, or a ring's length or kind out of range.
+    Rings,
+    /// Chainage that no ring owns.
+    Chainage,
+    /// Lent room shorter than what is written there.
+    Room,
 }
 
 impl Refusal {
@@ -46,6 +52,9 @@ impl Refusal {
             Refusal::Record => 11,
             Refusal::Cell => 12,
             Refusal::Line => 13,
+            Refusal::Rings => 14,
+            Refusal::Chainage => 15,
+            Refusal::Room => 16,
         }
     }
 }

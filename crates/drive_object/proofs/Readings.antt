@@ -8,7 +8,7 @@ use native.Mathlib.Omega.{arith}
 use Rattle.laws.specs.Bit.{bit}
 use Rattle.refusal.specs.Number.{numberOf}
 use Rattle.refusal.specs.declared.Refusal.{Refusal}
-use Rattle.refusal.specs.declared.Refusal.the-variants.{File, Dimensions, Length, NextState, Row, Cells, Task, Operation, Pending, Idle, Record, Cell, Line}
+use Rattle.refusal.specs.declared.Refusal.the-variants.{File, Dimensions, Length, NextState, Row, Cells, Task, Operation, Pending, Idle, Record, Cell, Line, Rings, Chainage, Room}
 use Rattle.cells.specs.Ceiling.{ceilingSaid}
 use Rattle.cells.specs.declared.ceiling.Ceiling.{Ceiling}
 use Rattle.cells.specs.declared.ceiling.Ceiling.the-variants as ceiling
@@ -50,6 +50,9 @@ number-fits Idle = omega arith
 number-fits Record = omega arith
 number-fits Cell = omega arith
 number-fits Line = omega arith
+number-fits Rings = omega arith
+number-fits Chainage = omega arith
+number-fits Room = omega arith
 
 -- A refused call shows the number of its cause, and no flag: it is no operation that has ended.
 pub refused-read : (c : Refusal) → (refusalIn (refusedWord c) ≡ numberOf c) × (flagsIn (refusedWord c) ≡ 0)

@@ -8,3 +8,5 @@ pub mod Lists
 pub mod Tabulate
 pub mod Places
 pub mod Sums
+pub mod Lowest
+pub mod Joined

@@ -6,3 +6,5 @@ pub mod Update
 pub mod Tabulate
 pub mod Places
 pub mod Sum
+pub mod Lowest
+pub mod Joined

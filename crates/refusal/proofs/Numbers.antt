@@ -1,4 +1,4 @@
--- All thirteen numbers are those of the table of refusals.
+-- All numbers are those of the table of refusals.
 use mathlib.Core.Path.{_≡_, refl}
 use mathlib.Core.List.{map}
 use Rattle.refusal.specs.Number.{numberOf}

@@ -1,2 +1,3 @@
 pub mod Number
 pub mod Rows
+pub mod Written

@@ -2,7 +2,7 @@
 use mathlib.Core.List.{List, []}
 use Prim.Native.Nat.{ℕ}
 use Rattle.refusal.specs.declared.Refusal.{Refusal}
-use Rattle.refusal.specs.declared.Refusal.the-variants.{File, Dimensions, Length, NextState, Row, Cells, Task, Operation, Pending, Idle, Record, Cell, Line}
+use Rattle.refusal.specs.declared.Refusal.the-variants.{File, Dimensions, Length, NextState, Row, Cells, Task, Operation, Pending, Idle, Record, Cell, Line, Rings, Chainage, Room}
 
 -- The numbers follow the order of the page's table.
 abbrev pub numberOf : Refusal → ℕ
@@ -19,6 +19,9 @@ numberOf Idle = 10
 numberOf Record = 11
 numberOf Cell = 12
 numberOf Line = 13
+numberOf Rings = 14
+numberOf Chainage = 15
+numberOf Room = 16
 
 -- What an answer says: a number, 0 if the call is accepted, and the values that come with it.
 pub record Said : Type 0 where

@@ -2,7 +2,7 @@
 use mathlib.Core.List.{List, [], _∷_}
 use Prim.Native.Nat.{ℕ}
 use Rattle.refusal.specs.declared.Refusal.{Refusal}
-use Rattle.refusal.specs.declared.Refusal.the-variants.{File, Dimensions, Length, NextState, Row, Cells, Task, Operation, Pending, Idle, Record, Cell, Line}
+use Rattle.refusal.specs.declared.Refusal.the-variants.{File, Dimensions, Length, NextState, Row, Cells, Task, Operation, Pending, Idle, Record, Cell, Line, Rings, Chainage, Room}
 
 pub record TableRow : Type 0 where
   pub cause : Refusal
@@ -39,4 +39,10 @@ rows =
     ∷ row Cell 12
     -- Bench line of no known form, or before an accepted start.
     ∷ row Line 13
+    -- List of rings: its length, or a ring's length or kind, out of range.
+    ∷ row Rings 14
+    -- Chainage with no owner.
+    ∷ row Chainage 15
+    -- Room shorter than what is to be written.
+    ∷ row Room 16
     ∷ []

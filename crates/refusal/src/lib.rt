@@ -29,6 +29,19 @@ pub enum Refusal {
     Cell,
     // The bench line has no known form, or stands before an accepted start.
     Line,
+    // The list of rings has no ring, too many, or one whose length or kind is out of range.
+    Rings,
+    // No ring owns the chainage.
+    Chainage,
+    // The lent room is shorter than what is to be written there.
+    Room,
+}
+
+// What a call that writes a file or a list into lent room answers.
+pub enum Written {
+    // The length of what was written, in bytes or entries.
+    Length(u32),
+    Refused(Refusal),
 }
 
 // The number that is returned for a cause.
@@ -49,5 +62,8 @@ pub fn number(cause: Refusal) -> u8
         Refusal::Record => 11,
         Refusal::Cell => 12,
         Refusal::Line => 13,
+        Refusal::Rings => 14,
+        Refusal::Chainage => 15,
+        Refusal::Room => 16,
     }
 }

@@ -13,6 +13,9 @@ const TRAILER_BYTES: usize = 16;
 
 const MARK_BYTES: usize = 6;
 
+// The mark in which a file ends: checked here, and written by every writer.
+pub const MARK: [u8; 6] = *b"DRIVE1";
+
 // The length of the longest file.
 pub const LONGEST_FILE: usize = 20_496;
 
@@ -82,10 +85,9 @@ pub fn ends_in_mark(file: &[u8]) -> bool
         return false;
     }
     let at = file.len() - MARK_BYTES;
-    let mark = b"DRIVE1";
     let mut i = 0;
     while i < MARK_BYTES {
-        if file[at + i] != mark[i] {
+        if file[at + i] != MARK[i] {
             return false;
         }
         i += 1;

@@ -60,6 +60,9 @@ refusals! {
     10 Idle "the task has no operation pending"
     11 Record "the task's record is out of form"
     12 Cell "the touched cell is out of form"
+    14 Rings "the rings are not 1 to 255, or a ring's length is not 1 to 20,000 or its kind not ordinary or key"
+    15 Chainage "no ring owns the chainage"
+    16 Room "the room is shorter than what is to be written"
 }
 
 impl core::error::Error for Refusal {}
@@ -124,9 +127,15 @@ pub fn progress(word: u64) -> Result<Progress, Refusal> {
     })
 }
 
-/// Bytes 4 to 7 are the ceiling.
+/// Bytes 2 and 3: the number of a ring.
 #[inline]
-pub fn ceiling(word: u64) -> Result<u32, Refusal> {
+pub fn low_number(word: u64) -> Result<u16, Refusal> {
+    accepted(word).map(|word| (word >> 16) as u16)
+}
+
+/// Bytes 4 to 7: a ceiling, or the length of what was written.
+#[inline]
+pub fn high_number(word: u64) -> Result<u32, Refusal> {
     accepted(word).map(|word| (word >> 32) as u32)
 }
 
@@ -179,7 +188,8 @@ mod tests {
         for word in with_reserved(0x1234_5678_abcd_0000) {
             assert_eq!(accepted(word), Ok(word));
             assert_eq!(shape(word), Ok(read));
-            assert_eq!(ceiling(word), Ok(0x1234_5678));
+            assert_eq!(low_number(word), Ok(0xabcd));
+            assert_eq!(high_number(word), Ok(0x1234_5678));
         }
     }
 
@@ -188,12 +198,14 @@ mod tests {
         for number in 1..=u8::MAX {
             let refusal = Refusal::of_number(number);
             assert_eq!(refusal.number(), number);
-            assert_eq!(matches!(refusal, Refusal::Unknown(_)), number > 12);
+            let known = matches!(number, 1..=12 | 14..=16);
+            assert_eq!(matches!(refusal, Refusal::Unknown(_)), !known);
             for word in with_reserved(u64::from(number)) {
                 assert_eq!(accepted(word), Err(refusal));
                 assert_eq!(shape(word), Err(refusal));
                 assert_eq!(progress(word), Err(refusal));
-                assert_eq!(ceiling(word), Err(refusal));
+                assert_eq!(low_number(word), Err(refusal));
+                assert_eq!(high_number(word), Err(refusal));
             }
         }
     }

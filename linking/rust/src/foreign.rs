@@ -47,6 +47,8 @@ extern "C" {
         own: *mut Task,
     ) -> u64;
     fn drive_ceiling(task_count: usize) -> u64;
+    fn desk_owner(rings: *const u32, word_count: usize, chainage: u64) -> u64;
+    fn desk_table(rings: *const u32, word_count: usize, room: *mut u8, room_length: usize) -> u64;
 }
 
 // In every call below each pointer is that of one record, or comes with the length of its own slice. The borrow lasts as
@@ -130,4 +132,16 @@ pub fn step_record(file: &[u8], cells: &mut [u64], tasks: usize, task: usize, ow
 pub fn ceiling(tasks: usize) -> u64 {
     // SAFETY: nothing is lent.
     unsafe { drive_ceiling(tasks) }
+}
+
+#[inline]
+pub fn owner(rings: &[u32], chainage: u64) -> u64 {
+    // SAFETY: see above.
+    unsafe { desk_owner(rings.as_ptr(), rings.len(), chainage) }
+}
+
+#[inline]
+pub fn write_ring_table(rings: &[u32], room: &mut [u8]) -> u64 {
+    // SAFETY: see above.
+    unsafe { desk_table(rings.as_ptr(), rings.len(), room.as_mut_ptr(), room.len()) }
 }

@@ -1,9 +1,9 @@
 //! The drive object for kernels in Rust: a table of states and operations that up to eight tasks share through 64-bit
-//! cells. `docs/LINKING.md` is the page about linking; table files, cells and refusals stand in `docs/FORMATS.md`, runs
-//! and steps in `docs/RUNS.md`.
+//! cells; and the ring desk, which tells what ring owns a chainage and writes the table of a drive. `docs/LINKING.md` is the
+//! page about linking; table files, cells and refusals stand in `docs/FORMATS.md`, runs and steps in `docs/RUNS.md`.
 //!
-//! The borrows say most of what a caller owes: file, cells, row and record are valid for the whole call, do not overlap,
-//! and nobody else writes them meanwhile. What is left to the kernel:
+//! The borrows say most of what a caller owes: what is lent is valid for the whole call, does not overlap, and nobody else
+//! writes it meanwhile. What is left to the kernel:
 //!
 //! - Begin and step are called with switching closed: one call ends before the next one starts.
 //! - Handlers that run on the caller's stack leave the 128 bytes below the stack pointer alone.
@@ -11,8 +11,8 @@
 //!   table, and every call is lent the same ones. A kernel may instead keep each record with its task: it takes them out
 //!   of the row after start, and makes every call for a task with the task's record and the row's number of records.
 //!
-//! Nothing is asked of task, operation or any length: a call that can't be served is refused with the first cause that
-//! holds, and then everything lent is left as it was. No call panics, allocates or keeps a reference.
+//! Nothing is asked of task, operation, chainage or any length: a call that can't be served is refused with the first cause
+//! that holds, and then everything lent is left as it was. No call panics, allocates or keeps a reference.
 #![no_std]
 #![warn(missing_docs)]
 
@@ -26,6 +26,9 @@ pub const MOST_TASKS: usize = 8;
 
 /// The longest table file in bytes.
 pub const LONGEST_FILE: usize = 20_496;
+
+/// The most rings of a list.
+pub const MOST_RINGS: usize = 255;
 
 /// The private record of a task, whose number is its place in the row. [`start`] fills it; only the calls write it. The
 /// forms stand in `docs/RECORDS.md`.
@@ -118,5 +121,30 @@ pub fn step_record(
 /// The ceiling of own steps of an operation, whatever the other tasks do. Tests 5 on the number of tasks.
 #[inline]
 pub fn ceiling(tasks: usize) -> Result<u32, Refusal> {
-    answer::ceiling(foreign::ceiling(tasks))
+    answer::high_number(foreign::ceiling(tasks))
+}
+
+/// The number, from 1, of the ring that owns a chainage in millimetres. Tests 14 on the whole list, then 15.
+///
+/// `rings` is a list of 1 to 255 rings, two words for each: its length in millimetres, 1 to 20,000, and its kind, 0 ordinary
+/// or 1 key. Ring 1 begins at chainage 0, each other one at the end of the one before. An ordinary ring owns its start and
+/// not its end, a key ring owns both; if two own the chainage, the lower number is given.
+///
+/// Writes nothing. Its cost grows with the number of rings.
+#[inline]
+pub fn owner(rings: &[u32], chainage: u64) -> Result<u16, Refusal> {
+    answer::low_number(foreign::owner(rings, chainage))
+}
+
+/// Writes the table file of the drive with these rings, a list as for [`owner`]; the length of the file in bytes. Tests 14
+/// on the whole list, then 16.
+///
+/// State k is k rings built, and the start state is 0; operation 0 reads, 1 builds a ring, 2 takes one out; the response is
+/// k before the operation. The file has 6 bytes for each ring and 22 more.
+///
+/// Writes the file at the beginning of the room, which may hold anything before, and leaves the rest of it. Its cost grows
+/// with the number of rings.
+#[inline]
+pub fn write_ring_table(rings: &[u32], room: &mut [u8]) -> Result<u32, Refusal> {
+    answer::high_number(foreign::write_ring_table(rings, room))
 }

@@ -1,0 +1,27 @@
+-- Lists of one length, one after the other: their length, and the elements of each.
+use mathlib.Core.Path.{_≡_, refl, ap, _∙_}
+use mathlib.Core.List.{List, _++_}
+use Prim.Native.Nat.{ℕ, zero, suc, _+_, _*_, _<_, _≤_}
+use native.Mathlib.Decide.{ℕ-discrete}
+use native.Mathlib.Omega.{arith}
+use native.Mathlib.Nat.{mul-le-mul-right}
+use lib.ListN.{length, getD, length-append, List·getD-append}
+use lib.Seq.{getD-append-add}
+use Rattle.laws.specs.Joined.{joined}
+
+module _ {A : Type 0} (f : ℕ → List A) (width : ℕ) (wide : (k : ℕ) → length (f k) ≡ width) where
+  pub joined-length : (n : ℕ) → length (joined n f) ≡ width * n
+  unfolding joined
+  joined-length zero = omega arith
+  joined-length (suc n) = omega (arith, length-append (joined n f) (f n), joined-length n, wide n)
+
+  pub joined-at : (n : ℕ) (d : A) (k i : ℕ) → k < n → i < width → getD (joined n f) (width * k + i) d ≡ getD (f k) i d
+  unfolding joined
+  joined-at zero d k i h l = absurd (omega arith)
+  joined-at (suc n) d k i h l = by (joined-at n d k i) (ℕ-discrete k n)
+    where
+      by : (k < n → i < width → getD (joined n f) (width * k + i) d ≡ getD (f k) i d) → Dec (k ≡ n) → getD (joined n f ++ f n) (width * k + i) d ≡ getD (f k) i d
+      by below (yes e) = rw (e, ← joined-length n) (getD-append-add (joined n f) (f n) i d)
+      by below (no e) =
+          let b : suc k ≤ n = omega arith in
+          List·getD-append (joined n f) (f n) d (width * k + i) (omega (arith, joined-length n, mul-le-mul-right width b)) ∙ below b l
