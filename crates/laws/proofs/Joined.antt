@@ -8,6 +8,13 @@ use native.Mathlib.Nat.{mul-le-mul-right}
 use lib.ListN.{length, getD, length-append, List·getD-append}
 use lib.Seq.{getD-append-add}
 use Rattle.laws.specs.Joined.{joined}
+use Rattle.laws.proofs.Lists.{none-all, append-all}
+
+-- What holds of all elements of each list, and of the value past the end, holds of all.
+pub joined-all : {A : Type 0} (P : A → Type 0) (d : A) (f : ℕ → List A) → P d → ((k i : ℕ) → P (getD (f k) i d)) → (n i : ℕ) → P (getD (joined n f) i d)
+unfolding joined
+joined-all P d f past each zero i = none-all P d past i
+joined-all P d f past each (suc n) i = append-all P d (joined n f) (f n) (joined-all P d f past each n) (each n) i
 
 module _ {A : Type 0} (f : ℕ → List A) (width : ℕ) (wide : (k : ℕ) → length (f k) ≡ width) where
   pub joined-length : (n : ℕ) → length (joined n f) ≡ width * n

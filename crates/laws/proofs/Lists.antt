@@ -1,14 +1,14 @@
 -- Parts of a list, and writing one place of it.
 use mathlib.Core.Path.{_≡_, refl, sym, ap, _∙_}
 use mathlib.Core.Bool.{Bool, true, false}
-use mathlib.Core.List.{List, _++_}
-use Prim.Native.Nat.{ℕ, _+_, _-_, _<_, _≤_}
+use mathlib.Core.List.{List, [], _∷_, _++_}
+use Prim.Native.Nat.{ℕ, zero, suc, _+_, _-_, _<_, _≤_}
 use native.Mathlib.Numerals.{add-one}
 use native.Mathlib.Omega.{arith}
 use borrow.Author.Tests.{ltb-true, ltb-false}
 use lib.Dec.{ltb}
 use lib.ListN.{length, getD, take, drop, set, replicate, length-drop, replicate-append-replicate}
-use lib.Seq.{getD-set-same, length-take-le, set-out, take-all, take-at, take-suc-set}
+use lib.Seq.{getD-set-same, length-take-le, set-out, take-all, take-at, take-suc-set, sets}
 
 -- All that follows a place is the rest of the list.
 pub to-the-end : (xs : List ℕ) (k : ℕ) → take (length xs - k) (drop k xs) ≡ drop k xs
@@ -39,3 +39,27 @@ filled-more xs i a h e = rw (add-one, take-suc-set xs i a, e) (replicate-append-
 -- All k places are filled.
 pub filled-all : (xs : List ℕ) (i k a : ℕ) → length xs ≤ i → i ≤ length xs → length xs ≡ k → take i xs ≡ replicate i a → xs ≡ replicate k a
 filled-all xs i k a h l e f = let same : i ≡ k = omega arith in sym (take-all i xs h) ∙ f ∙ ap (λ (n : ℕ). replicate n a) same
+
+-- A list that is written where another ends is written as one list with it.
+sets-more : {A : Type 0} (l : List A) (i : ℕ) (first second : List A) → sets (sets l i first) (i + length first) second ≡ sets l i (first ++ second)
+sets-more l i [] second = let z : i + 0 ≡ i = omega arith in ap (λ (k : ℕ). sets l k second) z
+sets-more l i (x ∷ first) second =
+    let z : i + suc (length first) ≡ suc i + length first = omega arith in
+    ap (λ (k : ℕ). sets (sets (set l i x) (suc i) first) k second) z ∙ sets-more (set l i x) (suc i) first second
+
+pub sets-then : {A : Type 0} (l : List A) (i : ℕ) (first second : List A) {j : ℕ} {once twice : List A}
+    → once ≡ sets l i first → j ≡ i + length first → twice ≡ sets once j second → twice ≡ sets l i (first ++ second)
+sets-then l i first second e h f = f ∙ rw (e, h) (sets-more l i first second)
+
+-- What holds of all elements, and of the value past the end: at the end of a list, of one element more, and of two lists.
+module _ {A : Type 0} (P : A → Type 0) (d : A) where
+  pub none-all : P d → (k : ℕ) → P (getD [] k d)
+  none-all past k = past
+
+  pub cons-all : (x : A) (xs : List A) → P x → ((k : ℕ) → P (getD xs k d)) → (k : ℕ) → P (getD (x ∷ xs) k d)
+  cons-all x xs first rest zero = first
+  cons-all x xs first rest (suc k) = rest k
+
+  pub append-all : (xs ys : List A) → ((k : ℕ) → P (getD xs k d)) → ((k : ℕ) → P (getD ys k d)) → (k : ℕ) → P (getD (xs ++ ys) k d)
+  append-all [] ys first second k = second k
+  append-all (x ∷ xs) ys first second k = cons-all x (xs ++ ys) (first 0) (append-all xs ys (λ i. first (suc i)) second) k

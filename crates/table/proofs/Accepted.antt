@@ -3,18 +3,18 @@ use Prim.Native.Nat.{ℕ, _<_}
 use mathlib.Core.Path.{_≡_, sym, ap, _∙_}
 use mathlib.Core.Bool.{true}
 use mathlib.Core.List.{List}
-use borrow.Author.Tests.{ltb-true}
+use borrow.Author.Tests.{ltb-true, lt-ltb}
 use Rattle.laws.proofs.Choice.{taken}
 use Rattle.refusal.specs.declared.Refusal.the-variants.{NextState}
 use Rattle.table.specs.declared.Shape.{Shape}
 use Rattle.table.specs.declared.Checked.{Checked}
 use Rattle.table.specs.declared.Checked.the-variants.{Accepted, Refused}
-use Rattle.laws.proofs.Below.{all-at}
+use Rattle.laws.proofs.Below.{all-at, all-of}
 use Rattle.table.specs.File.{Bytes}
 use Rattle.table.specs.Entries.{entryOf, entryInRange, operationInRange, entriesInRange}
 use Rattle.table.specs.Layout.{layoutOf}
 use Rattle.table.specs.Check.{withEntries, checkOf}
-use Rattle.table.proofs.Fitting.{Fitting, layout-fitting, refused}
+use Rattle.table.proofs.Fitting.{Fitting, layout-fitting, fitting-layout, refused}
 
 module _ (file : List ℕ) (shape : Shape) where
   -- One tested entry: its next state is one of the table's states.
@@ -59,6 +59,12 @@ module _ (file : List ℕ) (shape : Shape) where
     -- Every next state is one of the table's states.
     pub accepted-next : (state operation : ℕ) → state < shape .states → operation < shape .operations → entryOf file shape state operation .next < shape .states
     accepted-next state operation q o = next-below state operation (accepted-entry state operation q o)
+
+  -- A file of which none of causes 1 to 4 holds is accepted.
+  pub fitting-accepted : Fitting file shape → ((state operation : ℕ) → state < shape .states → operation < shape .operations → entryOf file shape state operation .next < shape .states) → checkOf file ≡ Accepted shape
+  unfolding checkOf entriesInRange operationInRange entryInRange
+  fitting-accepted fitting below =
+      simp (fitting-layout file shape fitting, all-of (shape .operations) (operationInRange file shape) (λ operation o. all-of (shape .states) (λ state. entryInRange file shape state operation) (λ state q. lt-ltb _ _ (below state operation q o))))
 
   -- A response is a byte.
   pub response-byte : Bytes file → (state operation : ℕ) → entryOf file shape state operation .response < 256

@@ -3,7 +3,7 @@ use Prim.Native.Nat.{ℕ, _+_, _*_, _<_, _≤_}
 use mathlib.Core.Path.{_≡_, ap, _∙_}
 use mathlib.Core.Bool.{true, and-eq-true-iff}
 use mathlib.Core.List.{List}
-use borrow.Author.Tests.{leb-true, ltb-true, eqb-true}
+use borrow.Author.Tests.{leb-true, ltb-true, eqb-true, le-leb, lt-ltb, eq-eqb}
 use lib.ListN.{length}
 use Rattle.laws.proofs.Clash.{never}
 use Rattle.laws.proofs.Choice.{taken}
@@ -12,8 +12,7 @@ use Rattle.refusal.specs.declared.Refusal.the-variants.{File, Dimensions, Lengt
 use Rattle.table.specs.declared.Shape.{Shape}
 use Rattle.table.specs.declared.Checked.the-variants.{Accepted, Refused}
 use Rattle.table.specs.File.{endsInMark, shapeOf, trailerBytes}
-use Rattle.table.specs.Entries.{entryBytes}
-use Rattle.table.specs.Layout.{longestFile, mostStates, mostOperations, greatestOffset, fileFits, dimensionsFit, lengthFits, layoutOf}
+use Rattle.table.specs.Layout.{longestFile, mostStates, mostOperations, greatestOffset, fileLength, fileFits, dimensionsFit, lengthFits, layoutOf}
 
 -- The negations of causes 1 to 3, one by one, for a file and its shape.
 pub record Fitting (file : List ℕ) (shape : Shape) : Type 0 where
@@ -27,7 +26,7 @@ pub record Fitting (file : List ℕ) (shape : Shape) : Type 0 where
   pub few-operations : shape .operations ≤ mostOperations
   pub start-below : shape .start < shape .states
   pub little-text : shape .offset ≤ greatestOffset
-  pub adds-up : shape .offset + entryBytes * (shape .states * shape .operations) + trailerBytes ≡ length file
+  pub adds-up : fileLength shape ≡ length file
 
 -- No refusal is an acceptance.
 pub refused : (cause : Refusal) (shape : Shape) → Refused cause ≡ Accepted shape → ⊥
@@ -50,7 +49,7 @@ module _ (file : List ℕ) (shape : Shape) where
       let s = and-eq-true-iff _ _ .0 (r .0) in
       ((leb-true _ _ (s .0), leb-true _ _ (s .1)), (leb-true _ _ (r .1), (leb-true _ _ (q .1), ltb-true _ _ (p .1))))
 
-  length-parts : lengthFits (length file) shape ≡ true → (shape .offset ≤ greatestOffset) × (shape .offset + entryBytes * (shape .states * shape .operations) + trailerBytes ≡ length file)
+  length-parts : lengthFits (length file) shape ≡ true → (shape .offset ≤ greatestOffset) × (fileLength shape ≡ length file)
   unfolding lengthFits
   length-parts e =
       let p = and-eq-true-iff _ _ .0 e in
@@ -80,3 +79,14 @@ module _ (file : List ℕ) (shape : Shape) where
         little-text = k .0;
         adds-up = k .1;
       }
+
+  -- A file of which none of causes 1 to 3 holds has an accepted layout.
+  pub fitting-layout : Fitting file shape → layoutOf file ≡ Accepted shape
+  unfolding layoutOf fileFits dimensionsFit lengthFits
+  fitting-layout f =
+      simp (
+        ← f .shape-is,
+        le-leb _ _ (f .not-short), le-leb _ _ (f .not-long), f .marked,
+        le-leb _ _ (f .some-state), le-leb _ _ (f .few-states), le-leb _ _ (f .some-operation), le-leb _ _ (f .few-operations), lt-ltb _ _ (f .start-below),
+        le-leb _ _ (f .little-text), eq-eqb _ _ (f .adds-up),
+      )

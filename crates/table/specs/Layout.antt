@@ -27,6 +27,10 @@ mostOperations = 32
 abbrev pub greatestOffset : ℕ
 greatestOffset = 4096
 
+-- The length of a file of this shape: text, entries and trailer.
+abbrev pub fileLength : Shape → ℕ
+fileLength shape = shape .offset + entryBytes * (shape .states * shape .operations) + trailerBytes
+
 -- Cause 1 does not hold.
 unfoldable pub fileFits : List ℕ → Bool
 fileFits file = leb trailerBytes (length file) && leb (length file) longestFile && endsInMark file
@@ -39,7 +43,7 @@ dimensionsFit shape =
 -- Cause 3 does not hold for a file of this length.
 unfoldable pub lengthFits : ℕ → Shape → Bool
 lengthFits bytes shape =
-    leb (shape .offset) greatestOffset && eqb (shape .offset + entryBytes * (shape .states * shape .operations) + trailerBytes) bytes
+    leb (shape .offset) greatestOffset && eqb (fileLength shape) bytes
 
 -- The first of causes 1 to 3 that holds, or the file's shape.
 unfoldable pub layoutOf : List ℕ → Checked

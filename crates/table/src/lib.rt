@@ -5,7 +5,7 @@ use refusal::Refusal;
 ghost use mathlib.Core.Path.{_≡_};
 ghost use Prim.Native.Nat.{_-_, _*_, _<_, _^_};
 ghost use Rattle.table.specs.File.{byteAt, number16, trailerBytes, endsInMark, shapeOf};
-ghost use Rattle.table.specs.Layout.{fileFits, dimensionsFit, lengthFits, layoutOf};
+ghost use Rattle.table.specs.Layout.{fileLength, fileFits, dimensionsFit, lengthFits, layoutOf};
 ghost use Rattle.table.specs.Entries.{entryOf, entryInRange, operationInRange, entriesInRange, moves, changing};
 ghost use Rattle.table.specs.Check.{checkOf};
 
@@ -155,16 +155,22 @@ fn dimensions_fit(shape: Shape) -> bool
     shape.start < states
 }
 
+// The length of a file of this shape: text, entries and trailer.
+pub fn file_length(shape: Shape) -> usize
+    ensures { λ r. ⌜ r ≡ fileLength shape ⌝ }
+{
+    let entries = product(shape.states, shape.operations);
+    shape.offset as usize + ENTRY_BYTES * entries + TRAILER_BYTES
+}
+
 // Whether the offset is in range and text, entries and trailer make up the length: cause 3 does not hold.
 fn length_fits(length: usize, shape: Shape) -> bool
     ensures { λ r. ⌜ r ≡ lengthFits length shape ⌝ }
 {
-    let offset = shape.offset;
-    if GREATEST_OFFSET < offset {
+    if GREATEST_OFFSET < shape.offset {
         return false;
     }
-    let entries = product(shape.states, shape.operations);
-    offset as usize + ENTRY_BYTES * entries + TRAILER_BYTES == length
+    file_length(shape) == length
 }
 
 // The first of causes 1 to 3 that holds, or the file's shape.

@@ -1,0 +1,2 @@
+pub mod Trailers
+pub mod ReadsBack
