@@ -35,7 +35,7 @@ entry-bytes entry = two-bytes (entry .next % 256) (entry .response % 256) (omega
 -- ---- The file
 
 module _ (s m start : ℕ) (entry : ℕ → ℕ → Entry) where
-  written-length : length (fileOf s m start entry) ≡ fileLength (plainShape s m start)
+  pub written-length : length (fileOf s m start entry) ≡ fileLength (plainShape s m start)
   unfolding fileOf
   written-length = omega (arith, file-length (entriesOf s m entry) (plainShape s m start), entries-length s m entry)
 

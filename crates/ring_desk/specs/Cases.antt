@@ -1,0 +1,50 @@
+-- docs/FORMATS.md, "Cases": those of the ring desk, as one table.
+use Prim.Native.Nat.{ℕ}
+use mathlib.Core.List.{List, [], _∷_}
+use lib.ListN.{length, getD, replicate, set}
+use Rattle.laws.specs.Case.{Case, case}
+use Rattle.ring_desk.specs.Owner.{ownerOf, ownerSaid}
+
+-- Rings of 1,000, the second a key ring.
+abbrev three : List ℕ
+three = 1000 ∷ 0 ∷ 1000 ∷ 1 ∷ 1000 ∷ 0 ∷ []
+
+-- One key ring of 5.
+abbrev lone : List ℕ
+lone = 5 ∷ 1 ∷ []
+
+-- The number of the refusal, 0 for an answer.
+unfoldable pub refusal : List ℕ → ℕ → ℕ
+refusal rings chainage = ownerSaid (ownerOf rings chainage) .number
+
+-- The number of the owner, 0 for none.
+unfoldable pub owner : List ℕ → ℕ → ℕ
+owner rings chainage = getD (ownerSaid (ownerOf rings chainage) .values) 0 0
+
+unfoldable pub deskCases : List Case
+deskCases =
+    -- A joint after an ordinary ring is the next ring's, one after a key ring is the key ring's.
+    case (owner three 0) 1
+    ∷ case (owner three 999) 1
+    ∷ case (owner three 1000) 2
+    ∷ case (owner three 1999) 2
+    ∷ case (owner three 2000) 2
+    ∷ case (owner three 2001) 3
+    -- The end of an ordinary last ring has no owner, that of a key ring has.
+    ∷ case (owner three 2999) 3
+    ∷ case (refusal three 3000) 15
+    ∷ case (owner lone 5) 1
+    ∷ case (refusal lone 6) 15
+    -- No ring, one word too many, 255 rings, 256 rings.
+    ∷ case (refusal [] 0) 14
+    ∷ case (refusal (5 ∷ 1 ∷ 5 ∷ []) 0) 14
+    ∷ case (refusal (replicate 510 1) 0) 0
+    ∷ case (refusal (replicate 512 1) 0) 14
+    -- Lengths 0, 1, 20,000 and 20,001; kind 2; out of range in a ring after the owner.
+    ∷ case (refusal (0 ∷ 0 ∷ []) 0) 14
+    ∷ case (owner (1 ∷ 0 ∷ []) 0) 1
+    ∷ case (owner (20000 ∷ 0 ∷ []) 19999) 1
+    ∷ case (refusal (20001 ∷ 0 ∷ []) 0) 14
+    ∷ case (refusal (5 ∷ 2 ∷ []) 0) 14
+    ∷ case (refusal (set three 5 2) 0) 14
+    ∷ []

@@ -1,0 +1,116 @@
+-- What is proved of the ring desk's calls, as types over their definitions: what the list must be, who owns a chainage, what is
+-- written, and what the table says.
+use mathlib.Core.Path.{_≡_}
+use mathlib.Core.Bool.{true, false}
+use mathlib.Core.Logic.{_↔_, _⊎_}
+use mathlib.Core.List.{List}
+use Prim.Native.Nat.{ℕ, _+_, _-_, _*_, _<_, _≤_}
+use lib.ListN.{length, take, drop}
+use Rattle.refusal.specs.declared.Refusal.{Refusal}
+use Rattle.refusal.specs.declared.Refusal.the-variants.{Rings, Chainage, Room}
+use Rattle.refusal.specs.declared.Written.the-variants as written
+use Rattle.table.specs.declared.Checked.the-variants as table
+use Rattle.table.specs.File.{Bytes}
+use Rattle.table.specs.Check.{checkOf}
+use Rattle.table.specs.Entries.{entryOf, changing}
+use Rattle.ring_desk.specs.declared.OwnerAnswer.the-variants.{Ring, Refused}
+use Rattle.ring_desk.specs.Rings.{mostRings, longestRing, ordinary, key, ringCount, lengthOf, kindOf, startOf, endOf}
+use Rattle.ring_desk.specs.Owner.{ownerOf}
+use Rattle.ring_desk.specs.Table.{deskOperations, deskShape, deskFile, tableOf}
+
+-- ---- The list of rings
+
+-- Two words a ring, 1 to 255 rings, every length from 1 to 20,000, every kind ordinary or key.
+pub record InRange (rings : List ℕ) : Type 0 where
+  pub paired : length rings ≡ 2 * ringCount rings
+  pub some : 1 ≤ ringCount rings
+  pub few : ringCount rings ≤ mostRings
+  pub some-length : (place : ℕ) → place < ringCount rings → 1 ≤ lengthOf rings place
+  pub short : (place : ℕ) → place < ringCount rings → lengthOf rings place ≤ longestRing
+  pub kinds : (place : ℕ) → place < ringCount rings → (kindOf rings place ≡ ordinary) ⊎ (kindOf rings place ≡ key)
+
+-- ---- Owners
+
+-- An ordinary ring owns its start and not its end; a key ring owns both.
+pub data Owns (rings : List ℕ) (place chainage : ℕ) : Type 0 where
+  as-ordinary : kindOf rings place ≡ ordinary → startOf rings place ≤ chainage → chainage < endOf rings place → Owns rings place chainage
+  as-key : kindOf rings place ≡ key → startOf rings place ≤ chainage → chainage ≤ endOf rings place → Owns rings place chainage
+
+-- The ring at a place owns a chainage, and no ring of a lower number does.
+pub record Owner (rings : List ℕ) (place chainage : ℕ) : Type 0 where
+  pub listed : place < ringCount rings
+  pub owned : Owns rings place chainage
+  pub lowest : (lower : ℕ) → lower < place → Owns rings lower chainage → ⊥
+
+-- No ring of the list owns a chainage.
+abbrev pub Unowned : List ℕ → ℕ → Type 0
+Unowned rings chainage = (place : ℕ) → place < ringCount rings → Owns rings place chainage → ⊥
+
+-- What the call answers, each answer in both directions.
+pub record OwnerAnswered (rings : List ℕ) (chainage : ℕ) : Type 0 where
+  -- 14 exactly if the list is out of range.
+  pub out-of-range : (ownerOf rings chainage ≡ Refused Rings) ↔ (InRange rings → ⊥)
+  -- 15 exactly if the list is in range and no ring owns the chainage.
+  pub no-owner : (ownerOf rings chainage ≡ Refused Chainage) ↔ (InRange rings × Unowned rings chainage)
+  -- A number exactly if the list is in range and the ring of that number is the owner.
+  pub owner : (number : ℕ) → (ownerOf rings chainage ≡ Ring number) ↔ (InRange rings × ((place : ℕ) × (number ≡ place + 1) × Owner rings place chainage))
+
+-- No ring owns a chainage exactly if it lies past the end of the last ring, or at it and that ring is ordinary.
+abbrev pub PastTheEnd : List ℕ → ℕ → Type 0
+PastTheEnd rings chainage =
+    let last = ringCount rings - 1 in
+    InRange rings → Unowned rings chainage ↔ ((endOf rings last < chainage) ⊎ ((chainage ≡ endOf rings last) × (kindOf rings last ≡ ordinary)))
+
+-- Two rings own a chainage exactly if the first is a key ring that ends there and the other is its successor.
+abbrev pub TwoOwners : List ℕ → ℕ → Type 0
+TwoOwners rings chainage =
+    InRange rings → (lower higher : ℕ) → lower < higher → higher < ringCount rings
+    → (Owns rings lower chainage × Owns rings higher chainage) ↔ ((higher ≡ lower + 1) × (kindOf rings lower ≡ key) × (chainage ≡ endOf rings lower))
+
+-- Three rings never do.
+abbrev pub AtMostTwo : List ℕ → ℕ → Type 0
+AtMostTwo rings chainage =
+    InRange rings → (first second third : ℕ) → first < second → second < third → third < ringCount rings
+    → Owns rings first chainage → Owns rings second chainage → Owns rings third chainage → ⊥
+
+-- ---- The table
+
+-- Counting rings: a read leaves the number built, a build adds one, a take out takes one away; with all rings built a build changes
+-- nothing, and with none a take out.
+pub data Counts (rings : ℕ) : (built operation after : ℕ) → Type 0 where
+  read : {built : ℕ} → Counts rings built 0 built
+  build : {built : ℕ} → built < rings → Counts rings built 1 (built + 1)
+  build-at-last : Counts rings rings 1 rings
+  take-out : {built : ℕ} → Counts rings (built + 1) 2 built
+  take-out-at-none : Counts rings 0 2 0
+
+-- The file of a drive of so many rings: its length; check accepts it, with a state more than rings, three operations, start state 0 and
+-- offset 0; its entries count rings, in one way, and respond with the number built before; 0 is reading, 1 and 2 are changing.
+pub record DriveTable (rings : ℕ) : Type 0 where
+  pub long : length (deskFile rings) ≡ 6 * rings + 22
+  pub bytes : Bytes (deskFile rings)
+  pub accepted : checkOf (deskFile rings) ≡ table.Accepted (record { offset = 0; states = rings + 1; operations = 3; start = 0 })
+  pub counts : (built operation : ℕ) → built ≤ rings → operation < deskOperations
+      → Counts rings built operation (entryOf (deskFile rings) (deskShape rings) built operation .next)
+  pub counts-once : (built operation one other : ℕ) → Counts rings built operation one → Counts rings built operation other → one ≡ other
+  pub responds : (built operation : ℕ) → built ≤ rings → operation < deskOperations → entryOf (deskFile rings) (deskShape rings) built operation .response ≡ built
+  pub reads : changing (deskFile rings) (deskShape rings) 0 ≡ false
+  pub builds : changing (deskFile rings) (deskShape rings) 1 ≡ true
+  pub takes-out : changing (deskFile rings) (deskShape rings) 2 ≡ true
+
+abbrev pub DriveTables : Type 0
+DriveTables = (rings : ℕ) → 1 ≤ rings → rings ≤ mostRings → DriveTable rings
+
+-- What the call that writes it answers and leaves, each answer in both directions.
+pub record TableAnswered (rings room : List ℕ) : Type 0 where
+  -- 14 exactly if the list is out of range.
+  pub out-of-range : (tableOf rings room .answer ≡ written.Refused Rings) ↔ (InRange rings → ⊥)
+  -- 16 exactly if the list is in range and the room is shorter than the file.
+  pub no-room : (tableOf rings room .answer ≡ written.Refused Room) ↔ (InRange rings × (length room < 6 * ringCount rings + 22))
+  -- A length exactly if neither holds and it is that of the file, in bytes.
+  pub length-written : (bytes : ℕ) → (tableOf rings room .answer ≡ written.Length bytes) ↔ (InRange rings × (bytes ≤ length room) × (bytes ≡ 6 * ringCount rings + 22))
+  -- A refused call leaves the room as it was.
+  pub unchanged : (cause : Refusal) → tableOf rings room .answer ≡ written.Refused cause → tableOf rings room .room ≡ room
+  -- An accepted one leaves the file at the room's start, and every byte past it as it was.
+  pub file-written : (bytes : ℕ) → tableOf rings room .answer ≡ written.Length bytes
+      → (take bytes (tableOf rings room .room) ≡ deskFile (ringCount rings)) × (drop bytes (tableOf rings room .room) ≡ drop bytes room)
