@@ -23,7 +23,13 @@ use Rattle.stepping.specs.Opening.{Opening, shown}
 use Rattle.stepping.proofs.Theorem.{refusals-known}
 use Rattle.stepping.specs.declared.answer.StartAnswer.{StartAnswer}
 use Rattle.stepping.specs.declared.answer.StartAnswer.the-variants as start
-use Rattle.drive_object.specs.Word.{wordOf, endedFlags, refusalIn, flagsIn, endedIn, movedIn, lowIn, highIn, valueAt, refusedWord, checkWord, startWord, answerWord, ceilingWord}
+use Rattle.refusal.specs.Written.{writtenSaid}
+use Rattle.refusal.specs.declared.Written.{Written}
+use Rattle.refusal.specs.declared.Written.the-variants as written
+use Rattle.ring_desk.specs.Owner.{ownerSaid}
+use Rattle.ring_desk.specs.declared.OwnerAnswer.{OwnerAnswer}
+use Rattle.ring_desk.specs.declared.OwnerAnswer.the-variants as owner
+use Rattle.drive_object.specs.Word.{wordOf, endedFlags, refusalIn, flagsIn, endedIn, movedIn, lowIn, highIn, valueAt, refusedWord, checkWord, startWord, answerWord, ceilingWord, ownerWord, writtenWord}
 
 -- The four parts of a word, each as wide as its bytes.
 pub parts-read : (c f l h : ℕ) → c < 256 → f < 256 → l < 65536
@@ -54,11 +60,9 @@ number-fits Rings = omega arith
 number-fits Chainage = omega arith
 number-fits Room = omega arith
 
--- A refused call shows the number of its cause, and no flag: it is no operation that has ended.
-pub refused-read : (c : Refusal) → (refusalIn (refusedWord c) ≡ numberOf c) × (flagsIn (refusedWord c) ≡ 0)
-refused-read c =
-    let parts = parts-read (numberOf c) 0 0 0 (number-fits c) (omega arith) (omega arith) in
-    (parts .0, parts .1)
+-- A refused call shows the number of its cause, no flag, for it is no operation that has ended, and no value.
+pub refused-read : (c : Refusal) → let w = refusedWord c in (refusalIn w ≡ numberOf c) × (flagsIn w ≡ 0) × (lowIn w ≡ 0) × (highIn w ≡ 0)
+refused-read c = parts-read (numberOf c) 0 0 0 (number-fits c) (omega arith) (omega arith)
 
 -- A start and a ceiling show their number: that of the refusal, 0 if the call is accepted.
 pub start-read : (a : StartAnswer) → refusalIn (startWord a) ≡ startSaid a .number
@@ -67,9 +71,16 @@ start-read (start.Refused c) = refused-read c .0
 
 pub ceiling-read : (a : Ceiling) → (refusalIn (ceilingWord a) ≡ ceilingSaid a .number) × (highIn (ceilingWord a) ≡ valueAt (ceilingSaid a) 0)
 ceiling-read (ceiling.Steps k) = (omega arith, omega arith)
-ceiling-read (ceiling.Refused c) =
-    let parts = parts-read (numberOf c) 0 0 0 (number-fits c) (omega arith) (omega arith) in
-    (parts .0, parts .3)
+ceiling-read (ceiling.Refused c) = (refused-read c .0, refused-read c .3)
+
+-- A desk's answer shows its number, and the ring's number or the length that was written.
+pub owner-read : (a : OwnerAnswer) → valueAt (ownerSaid a) 0 < 65536 → (refusalIn (ownerWord a) ≡ ownerSaid a .number) × (lowIn (ownerWord a) ≡ valueAt (ownerSaid a) 0)
+owner-read (owner.Ring number) h = (omega arith, omega (arith, h))
+owner-read (owner.Refused c) h = (refused-read c .0, refused-read c .2)
+
+pub written-read : (a : Written) → (refusalIn (writtenWord a) ≡ writtenSaid a .number) × (highIn (writtenWord a) ≡ valueAt (writtenSaid a) 0)
+written-read (written.Length k) = (omega arith, omega arith)
+written-read (written.Refused c) = (refused-read c .0, refused-read c .3)
 
 -- A check shows its number, and the three numbers of an accepted table.
 pub check-refused-read : (c : Refusal) → refusalIn (checkWord (table.Refused c)) ≡ numberOf c

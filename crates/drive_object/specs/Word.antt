@@ -4,6 +4,8 @@ use Prim.Native.Nat.{ℕ, _+_, _*_, _/_, _%_}
 use lib.ListN.{getD}
 use Rattle.laws.specs.Bit.{bit}
 use Rattle.refusal.specs.Number.{Said, refused}
+use Rattle.refusal.specs.Written.{writtenSaid}
+use Rattle.refusal.specs.declared.Written.{Written}
 use Rattle.refusal.specs.declared.Refusal.{Refusal}
 use Rattle.cells.specs.Ceiling.{ceilingSaid}
 use Rattle.cells.specs.declared.ceiling.Ceiling.{Ceiling}
@@ -14,6 +16,8 @@ use Rattle.stepping.specs.declared.answer.StepAnswer.{StepAnswer}
 use Rattle.stepping.specs.declared.answer.StartAnswer.{StartAnswer}
 use Rattle.stepping.specs.declared.answer.BeginAnswer.{BeginAnswer}
 use Rattle.stepping.specs.Call.{startSaid, beginSaid, stepSaid}
+use Rattle.ring_desk.specs.declared.OwnerAnswer.{OwnerAnswer}
+use Rattle.ring_desk.specs.Owner.{ownerSaid}
 
 -- Byte 0 of a word is the number of the refusal, byte 1 has flags, bytes 2 and 3 are the low number, bytes 4 to 7 the high one.
 abbrev pub wordOf : (refusal flags low high : ℕ) → ℕ
@@ -74,3 +78,11 @@ stepWord a = answerWord (stepSaid a)
 -- A ceiling is the high number.
 abbrev pub ceilingWord : Ceiling → ℕ
 ceilingWord a = wordOf (ceilingSaid a .number) 0 0 (valueAt (ceilingSaid a) 0)
+
+-- The number of an owner is the low number.
+abbrev pub ownerWord : OwnerAnswer → ℕ
+ownerWord a = wordOf (ownerSaid a .number) 0 (valueAt (ownerSaid a) 0) 0
+
+-- The length of what was written is the high number.
+abbrev pub writtenWord : Written → ℕ
+writtenWord a = wordOf (writtenSaid a .number) 0 0 (valueAt (writtenSaid a) 0)

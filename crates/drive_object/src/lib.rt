@@ -4,6 +4,8 @@ use cells::ceiling;
 use cells::ceiling::Ceiling;
 use records::record::Task;
 use refusal::Refusal;
+use refusal::Written;
+use ring_desk::OwnerAnswer;
 use stepping::answer::BeginAnswer;
 use stepping::answer::StartAnswer;
 use stepping::answer::StepAnswer;
@@ -13,7 +15,9 @@ ghost use Prim.Native.Nat.{_+_, _*_};
 ghost use Rattle.cells.specs.Ceiling.{ceilingOf};
 ghost use Rattle.table.specs.Check.{checkOf};
 ghost use Rattle.stepping.specs.Call.{startOf, beginTask, beginOf, stepTask, stepOf};
-ghost use Rattle.drive_object.specs.Word.{wordOf, endedFlags, refusedWord, checkWord, startWord, beginWord, stepWord, ceilingWord};
+ghost use Rattle.ring_desk.specs.Owner.{ownerOf};
+ghost use Rattle.ring_desk.specs.Table.{tableOf};
+ghost use Rattle.drive_object.specs.Word.{wordOf, endedFlags, refusedWord, checkWord, startWord, beginWord, stepWord, ceilingWord, ownerWord, writtenWord};
 
 // The word of a refusal's number, of flags, and of two numbers.
 fn word(cause: u8, flags: u8, low: u16, high: u32) -> u64
@@ -100,6 +104,26 @@ fn ceiling_word(answer: Ceiling) -> u64
     }
 }
 
+// The word of an owner.
+fn owner_word(answer: OwnerAnswer) -> u64
+    ensures { λ r. ⌜ r ≡ ownerWord answer ⌝ }
+{
+    match answer {
+        OwnerAnswer::Ring(number) => word(0, 0, number, 0),
+        OwnerAnswer::Refused(cause) => refused_word(cause),
+    }
+}
+
+// The word of what was written into lent room.
+fn written_word(answer: Written) -> u64
+    ensures { λ r. ⌜ r ≡ writtenWord answer ⌝ }
+{
+    match answer {
+        Written::Length(length) => word(0, 0, 0, length),
+        Written::Refused(cause) => refused_word(cause),
+    }
+}
+
 // Checks a table.
 #[no_mangle]
 pub extern "C" fn drive_check(file: &[u8]) -> u64
@@ -166,4 +190,20 @@ pub extern "C" fn drive_step_record(
     ensures { λ r. ⌜ (now (cells .exit) ≡ stepTask (now (file .entry)) (now (cells .entry)) tasks task (now (own .entry)) .cells) × (now (own .exit) ≡ stepTask (now (file .entry)) (now (cells .entry)) tasks task (now (own .entry)) .task) × (r ≡ stepWord (stepTask (now (file .entry)) (now (cells .entry)) tasks task (now (own .entry)) .answer)) ⌝ }
 {
     step_word(drive::step_record(file, cells, tasks, task, own))
+}
+
+// Which ring owns a chainage.
+#[no_mangle]
+pub extern "C" fn desk_owner(rings: &[u32], chainage: u64) -> u64
+    ensures { λ r. ⌜ r ≡ ownerWord (ownerOf (now (rings .entry)) chainage) ⌝ }
+{
+    owner_word(ring_desk::owner(rings, chainage))
+}
+
+// Writes the object table of a drive of these rings at the room's start.
+#[no_mangle]
+pub extern "C" fn desk_table(rings: &[u32], room: &mut [u8]) -> u64
+    ensures { λ r. ⌜ (now (room .exit) ≡ tableOf (now (rings .entry)) (now (room .entry)) .room) × (r ≡ writtenWord (tableOf (now (rings .entry)) (now (room .entry)) .answer)) ⌝ }
+{
+    written_word(ring_desk::write_table(rings, room))
 }

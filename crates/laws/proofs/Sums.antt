@@ -86,3 +86,12 @@ but-at-most p x c = go (ℕ-discrete x p)
 -- A bound of all shares leaves one of them free.
 pub but-most : (n p c : ℕ) (f : ℕ → ℕ) → p < n → ((x : ℕ) → f x ≤ c) → sum n (but p f) + c ≤ n * c
 but-most n p c f l h = omega (arith, but-rises n p (λ _. 0) f c l (λ x. omega (arith, h x)), sum-most n 0 (but p (λ _. 0)) (λ x. but-at-most p x 0))
+
+-- A share and all before it are at most the sum of more shares.
+pub sum-before : (n : ℕ) (f : ℕ → ℕ) (k : ℕ) → k < n → sum k f + f k ≤ sum n f
+sum-before zero f k h = absurd (not-suc-le-zero h)
+sum-before (suc n) f k h = by (sum-before n f k) (ℕ-discrete k n)
+  where
+    by : (k < n → sum k f + f k ≤ sum n f) → Dec (k ≡ n) → sum k f + f k ≤ sum n f + f n
+    by below (yes e) = rw e (omega arith)
+    by below (no d) = omega (arith, below (omega arith))

@@ -8,14 +8,14 @@ use native.Mathlib.Omega.{arith}
 use borrow.Author.Tests.{leb-true, eqb-true, le-leb, eq-eqb}
 use lib.ListN.{length}
 use Rattle.laws.proofs.Below.{all-at, all-of}
-use Rattle.ring_desk.specs.Rings.{longestRing, ordinary, key, ringCount, lengthOf, kindOf, ringFits, ringsFit}
+use Rattle.ring_desk.specs.Rings.{longestRing, key, ringCount, lengthOf, kindOf, ringFits, ringsFit}
 use Rattle.ring_desk.specs.Statement.{InRange}
 
-kind-cases : (kind : ℕ) → kind ≤ key → (kind ≡ ordinary) ⊎ (kind ≡ key)
+kind-cases : (kind : ℕ) → kind ≤ key → (kind ≡ 0) ⊎ (kind ≡ key)
 kind-cases zero h = inl (omega arith)
 kind-cases (suc k) h = inr (omega arith)
 
-kind-small : (kind : ℕ) → (kind ≡ ordinary) ⊎ (kind ≡ key) → kind ≤ key
+kind-small : (kind : ℕ) → (kind ≡ 0) ⊎ (kind ≡ key) → kind ≤ key
 kind-small kind (inl e) = omega arith
 kind-small kind (inr e) = omega arith
 
@@ -39,7 +39,7 @@ module _ (rings : List ℕ) where
       let r = and-eq-true-iff _ _ .0 (q .0) in
       let even : length rings % 2 ≡ 0 = eqb-true _ _ (r .0) in
       let each : (place : ℕ) → place < ringCount rings → (1 ≤ lengthOf rings place) × (lengthOf rings place ≤ longestRing) × (kindOf rings place ≤ key) =
-              λ place h. ring-parts _ _ (all-at (ringCount rings) (λ place. ringFits (lengthOf rings place) (kindOf rings place)) (p .1) place h) in
+      λ place h. ring-parts _ _ (all-at (ringCount rings) (λ place. ringFits (lengthOf rings place) (kindOf rings place)) (p .1) place h) in
       record {
         paired = omega arith;
         some = leb-true _ _ (r .1);
@@ -54,6 +54,8 @@ module _ (rings : List ℕ) where
   range-fits r =
       let even : length rings % 2 ≡ 0 = omega (arith, r .paired) in
       simp (
-        eq-eqb _ _ even, le-leb _ _ (r .some), le-leb _ _ (r .few),
+        eq-eqb _ _ even,
+        le-leb _ _ (r .some),
+        le-leb _ _ (r .few),
         all-of (ringCount rings) (λ place. ringFits (lengthOf rings place) (kindOf rings place)) (λ place h. parts-ring _ _ (r .some-length place h) (r .short place h) (kind-small _ (r .kinds place h))),
       )

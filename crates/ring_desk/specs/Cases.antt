@@ -1,7 +1,7 @@
 -- docs/FORMATS.md, "Cases": those of the ring desk, as one table.
 use Prim.Native.Nat.{ℕ}
 use mathlib.Core.List.{List, [], _∷_}
-use lib.ListN.{length, getD, replicate, set}
+use lib.ListN.{getD, set}
 use Rattle.laws.specs.Case.{Case, case}
 use Rattle.ring_desk.specs.Owner.{ownerOf, ownerSaid}
 
@@ -35,11 +35,9 @@ deskCases =
     ∷ case (refusal three 3000) 15
     ∷ case (owner lone 5) 1
     ∷ case (refusal lone 6) 15
-    -- No ring, one word too many, 255 rings, 256 rings.
+    -- No ring, one word too many.
     ∷ case (refusal [] 0) 14
     ∷ case (refusal (5 ∷ 1 ∷ 5 ∷ []) 0) 14
-    ∷ case (refusal (replicate 510 1) 0) 0
-    ∷ case (refusal (replicate 512 1) 0) 14
     -- Lengths 0, 1, 20,000 and 20,001; kind 2; out of range in a ring after the owner.
     ∷ case (refusal (0 ∷ 0 ∷ []) 0) 14
     ∷ case (owner (1 ∷ 0 ∷ []) 0) 1

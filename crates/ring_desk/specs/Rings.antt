@@ -16,10 +16,7 @@ mostRings = 255
 abbrev pub longestRing : ℕ
 longestRing = 20000
 
--- The kinds: an ordinary ring, and a key ring.
-abbrev pub ordinary : ℕ
-ordinary = 0
-
+-- The kind of a key ring; the kind of an ordinary one is 0.
 abbrev pub key : ℕ
 key = 1
 

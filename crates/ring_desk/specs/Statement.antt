@@ -14,27 +14,27 @@ use Rattle.table.specs.File.{Bytes}
 use Rattle.table.specs.Check.{checkOf}
 use Rattle.table.specs.Entries.{entryOf, changing}
 use Rattle.ring_desk.specs.declared.OwnerAnswer.the-variants.{Ring, Refused}
-use Rattle.ring_desk.specs.Rings.{mostRings, longestRing, ordinary, key, ringCount, lengthOf, kindOf, startOf, endOf}
+use Rattle.ring_desk.specs.Rings.{ringCount, lengthOf, kindOf, startOf, endOf}
 use Rattle.ring_desk.specs.Owner.{ownerOf}
-use Rattle.ring_desk.specs.Table.{deskOperations, deskShape, deskFile, tableOf}
+use Rattle.ring_desk.specs.Table.{deskShape, deskFile, tableOf}
 
 -- ---- The list of rings
 
--- Two words a ring, 1 to 255 rings, every length from 1 to 20,000, every kind ordinary or key.
+-- Two words a ring, 1 to 255 rings, every length from 1 to 20,000, every kind 0 for ordinary or 1 for key.
 pub record InRange (rings : List ℕ) : Type 0 where
   pub paired : length rings ≡ 2 * ringCount rings
   pub some : 1 ≤ ringCount rings
-  pub few : ringCount rings ≤ mostRings
+  pub few : ringCount rings ≤ 255
   pub some-length : (place : ℕ) → place < ringCount rings → 1 ≤ lengthOf rings place
-  pub short : (place : ℕ) → place < ringCount rings → lengthOf rings place ≤ longestRing
-  pub kinds : (place : ℕ) → place < ringCount rings → (kindOf rings place ≡ ordinary) ⊎ (kindOf rings place ≡ key)
+  pub short : (place : ℕ) → place < ringCount rings → lengthOf rings place ≤ 20000
+  pub kinds : (place : ℕ) → place < ringCount rings → (kindOf rings place ≡ 0) ⊎ (kindOf rings place ≡ 1)
 
 -- ---- Owners
 
 -- An ordinary ring owns its start and not its end; a key ring owns both.
 pub data Owns (rings : List ℕ) (place chainage : ℕ) : Type 0 where
-  as-ordinary : kindOf rings place ≡ ordinary → startOf rings place ≤ chainage → chainage < endOf rings place → Owns rings place chainage
-  as-key : kindOf rings place ≡ key → startOf rings place ≤ chainage → chainage ≤ endOf rings place → Owns rings place chainage
+  as-ordinary : kindOf rings place ≡ 0 → startOf rings place ≤ chainage → chainage < endOf rings place → Owns rings place chainage
+  as-key : kindOf rings place ≡ 1 → startOf rings place ≤ chainage → chainage ≤ endOf rings place → Owns rings place chainage
 
 -- The ring at a place owns a chainage, and no ring of a lower number does.
 pub record Owner (rings : List ℕ) (place chainage : ℕ) : Type 0 where
@@ -59,13 +59,13 @@ pub record OwnerAnswered (rings : List ℕ) (chainage : ℕ) : Type 0 where
 abbrev pub PastTheEnd : List ℕ → ℕ → Type 0
 PastTheEnd rings chainage =
     let last = ringCount rings - 1 in
-    InRange rings → Unowned rings chainage ↔ ((endOf rings last < chainage) ⊎ ((chainage ≡ endOf rings last) × (kindOf rings last ≡ ordinary)))
+    InRange rings → Unowned rings chainage ↔ ((endOf rings last < chainage) ⊎ ((chainage ≡ endOf rings last) × (kindOf rings last ≡ 0)))
 
 -- Two rings own a chainage exactly if the first is a key ring that ends there and the other is its successor.
 abbrev pub TwoOwners : List ℕ → ℕ → Type 0
 TwoOwners rings chainage =
     InRange rings → (lower higher : ℕ) → lower < higher → higher < ringCount rings
-    → (Owns rings lower chainage × Owns rings higher chainage) ↔ ((higher ≡ lower + 1) × (kindOf rings lower ≡ key) × (chainage ≡ endOf rings lower))
+    → (Owns rings lower chainage × Owns rings higher chainage) ↔ ((higher ≡ lower + 1) × (kindOf rings lower ≡ 1) × (chainage ≡ endOf rings lower))
 
 -- Three rings never do.
 abbrev pub AtMostTwo : List ℕ → ℕ → Type 0
@@ -90,16 +90,16 @@ pub record DriveTable (rings : ℕ) : Type 0 where
   pub long : length (deskFile rings) ≡ 6 * rings + 22
   pub bytes : Bytes (deskFile rings)
   pub accepted : checkOf (deskFile rings) ≡ table.Accepted (record { offset = 0; states = rings + 1; operations = 3; start = 0 })
-  pub counts : (built operation : ℕ) → built ≤ rings → operation < deskOperations
+  pub counts : (built operation : ℕ) → built ≤ rings → operation < 3
       → Counts rings built operation (entryOf (deskFile rings) (deskShape rings) built operation .next)
   pub counts-once : (built operation one other : ℕ) → Counts rings built operation one → Counts rings built operation other → one ≡ other
-  pub responds : (built operation : ℕ) → built ≤ rings → operation < deskOperations → entryOf (deskFile rings) (deskShape rings) built operation .response ≡ built
+  pub responds : (built operation : ℕ) → built ≤ rings → operation < 3 → entryOf (deskFile rings) (deskShape rings) built operation .response ≡ built
   pub reads : changing (deskFile rings) (deskShape rings) 0 ≡ false
   pub builds : changing (deskFile rings) (deskShape rings) 1 ≡ true
   pub takes-out : changing (deskFile rings) (deskShape rings) 2 ≡ true
 
 abbrev pub DriveTables : Type 0
-DriveTables = (rings : ℕ) → 1 ≤ rings → rings ≤ mostRings → DriveTable rings
+DriveTables = (rings : ℕ) → 1 ≤ rings → rings ≤ 255 → DriveTable rings
 
 -- What the call that writes it answers and leaves, each answer in both directions.
 pub record TableAnswered (rings room : List ℕ) : Type 0 where

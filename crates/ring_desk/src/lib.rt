@@ -145,22 +145,14 @@ pub fn owner(rings: &[u32], chainage: u64) -> OwnerAnswer
 fn after_build(rings: u16, built: u16) -> u16
     ensures { λ r. ⌜ r ≡ nextBuilt rings built 1 ⌝ }
 {
-    if built < rings {
-        built + 1
-    } else {
-        built
-    }
+    if built < rings { built + 1 } else { built }
 }
 
 // The rings built after a take out: no fewer than none.
 fn after_take_out(built: u16) -> u16
     ensures { λ r. ⌜ r ≡ built - 1 ⌝ }
 {
-    if 0 < built {
-        built - 1
-    } else {
-        0
-    }
+    if 0 < built { built - 1 } else { 0 }
 }
 
 // Writes the entries of one state at a place of the room: read, build, take out.
@@ -168,7 +160,10 @@ fn write_state(room: &mut [u8], at: u32, rings: u16, built: u16)
     requires { ⌜ at ≤ 6 * mostRings ⌝ }
     ensures { λ _. ⌜ now (room .exit) ≡ sets (now (room .entry)) at (stateBytes deskOperations (deskEntry rings built)) ⌝ }
 {
-    let read = Entry { next: built, response: built };
+    let read = Entry {
+        next: built,
+        response: built,
+    };
     let build = Entry {
         next: after_build(rings, built),
         response: built,

@@ -86,7 +86,14 @@ module _ (file : List ℕ) (shape : Shape) where
   fitting-layout f =
       simp (
         ← f .shape-is,
-        le-leb _ _ (f .not-short), le-leb _ _ (f .not-long), f .marked,
-        le-leb _ _ (f .some-state), le-leb _ _ (f .few-states), le-leb _ _ (f .some-operation), le-leb _ _ (f .few-operations), lt-ltb _ _ (f .start-below),
-        le-leb _ _ (f .little-text), eq-eqb _ _ (f .adds-up),
+        le-leb _ _ (f .not-short),
+        le-leb _ _ (f .not-long),
+        f .marked,
+        le-leb _ _ (f .some-state),
+        le-leb _ _ (f .few-states),
+        le-leb _ _ (f .some-operation),
+        le-leb _ _ (f .few-operations),
+        lt-ltb _ _ (f .start-below),
+        le-leb _ _ (f .little-text),
+        eq-eqb _ _ (f .adds-up),
       )

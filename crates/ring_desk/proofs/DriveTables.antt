@@ -1,0 +1,104 @@
+-- The object table of a drive is accepted, and counts rings.
+use mathlib.Core.Path.{_≡_, refl, sym, ap, _∙_}
+use mathlib.Core.Bool.{true, false}
+use Prim.Native.Nat.{ℕ, zero, suc, _+_, _-_, _<_, _≤_}
+use native.Mathlib.Decide.{decLt}
+use native.Mathlib.Omega.{arith}
+use borrow.Author.Tests.{lt-ltb, le-ltb, eq-eqb, ne-eqb}
+use Rattle.laws.proofs.Below.{any-of, not-any}
+use Rattle.table.specs.declared.Entry.{Entry}
+use Rattle.table.specs.Entries.{entryOf, moves, changing}
+use Rattle.table_writer.specs.Statement.{WithinLimits, ReadsBack}
+use Rattle.table_writer.proofs.ReadsBack.{reads-back}
+use Rattle.ring_desk.specs.Rings.{mostRings}
+use Rattle.ring_desk.specs.Table.{deskOperations, nextBuilt, deskEntry, deskShape, deskFile}
+use Rattle.ring_desk.specs.Statement.{Counts, read, build, build-at-last, take-out, take-out-at-none, DriveTable, DriveTables}
+use Rattle.ring_desk.proofs.Tables.{file-long}
+
+-- ---- Counting
+
+-- The definition counts.
+next-counts : (rings built operation : ℕ) → built ≤ rings → operation < deskOperations → Counts rings built operation (nextBuilt rings built operation)
+next-counts rings built zero h l = read
+next-counts rings built (suc zero) h l = by (decLt built rings)
+  where
+    by : Dec (built < rings) → Counts rings built 1 (nextBuilt rings built 1)
+    by (yes below) = rw (lt-ltb _ _ below) (build below)
+    by (no n) = let last : built ≡ rings = omega arith in rw (le-ltb built rings (omega arith), last) build-at-last
+next-counts rings zero (suc (suc zero)) h l = take-out-at-none
+next-counts rings (suc built) (suc (suc zero)) h l =
+    let before : suc built ≡ built + 1 = omega arith in
+    let after : suc built - 1 ≡ built = omega arith in
+    rw (after, before) take-out
+next-counts rings built (suc (suc (suc operation))) h l = absurd (omega arith)
+
+-- It counts in one way.
+counts-next : (rings built operation after : ℕ) → Counts rings built operation after → after ≡ nextBuilt rings built operation
+counts-next rings built operation after read = refl
+counts-next rings built operation after (build below) = rw (lt-ltb _ _ below)
+counts-next rings built operation after build-at-last = rw (le-ltb rings rings (omega arith))
+counts-next rings built operation after take-out = omega arith
+counts-next rings built operation after take-out-at-none = refl
+
+next-below : (rings built operation : ℕ) → built < rings + 1 → operation < deskOperations → nextBuilt rings built operation < rings + 1
+next-below rings built zero h l = h
+next-below rings built (suc zero) h l = by (decLt built rings)
+  where
+    by : Dec (built < rings) → nextBuilt rings built 1 < rings + 1
+    by (yes below) = rw (lt-ltb _ _ below) (omega arith)
+    by (no n) = rw (le-ltb built rings (omega arith)) h
+next-below rings built (suc (suc operation)) h l = omega arith
+
+-- ---- The file
+
+module _ (rings : ℕ) (some : 1 ≤ rings) (few : rings ≤ 255) where
+  limits : WithinLimits (rings + 1) deskOperations 0 (deskEntry rings)
+  limits =
+      record {
+        some-state = omega arith;
+        few-states = omega arith;
+        some-operation = omega arith;
+        few-operations = omega arith;
+        start-below = omega arith;
+        next-below = next-below rings;
+        response-byte = λ built operation h l. omega arith;
+      }
+
+  back : ReadsBack (rings + 1) deskOperations 0 (deskEntry rings)
+  back = reads-back (rings + 1) deskOperations 0 (deskEntry rings) limits
+
+  entry-is : (built operation : ℕ) → built ≤ rings → operation < deskOperations → entryOf (deskFile rings) (deskShape rings) built operation ≡ deskEntry rings built operation
+  unfolding deskFile
+  entry-is built operation h l = back .entries built operation (omega arith) l
+
+  next-is : (built operation : ℕ) → built ≤ rings → operation < deskOperations → entryOf (deskFile rings) (deskShape rings) built operation .next ≡ nextBuilt rings built operation
+  next-is built operation h l = ap (λ (e : Entry). e .next) (entry-is built operation h l)
+
+  reads : changing (deskFile rings) (deskShape rings) 0 ≡ false
+  unfolding changing moves
+  reads = not-any (rings + 1) (λ built. moves (deskFile rings) (deskShape rings) built 0) (λ built h. simp (eq-eqb _ _ (next-is built 0 (omega arith) (omega arith))))
+
+  -- An operation that moves a state is changing.
+  moved : (built operation : ℕ) → built ≤ rings → operation < deskOperations → (nextBuilt rings built operation ≡ built → ⊥) → changing (deskFile rings) (deskShape rings) operation ≡ true
+  unfolding changing moves
+  moved built operation h l other =
+      any-of (rings + 1) (λ built. moves (deskFile rings) (deskShape rings) built operation) built (omega arith)
+      (simp (ne-eqb _ _ (λ e. other (sym (next-is built operation h l) ∙ e))))
+
+  drive-table : DriveTable rings
+  unfolding deskFile
+  drive-table =
+      record {
+        long = file-long rings;
+        bytes = back .bytes;
+        accepted = back .accepted;
+        counts = λ built operation h l. rw (next-is built operation h l) (next-counts rings built operation h l);
+        counts-once = λ built operation one other a b. counts-next rings built operation one a ∙ sym (counts-next rings built operation other b);
+        responds = λ built operation h l. ap (λ (e : Entry). e .response) (entry-is built operation h l);
+        reads = reads;
+        builds = moved 0 1 (omega arith) (omega arith) (rw (lt-ltb 0 rings some) (λ e. omega arith));
+        takes-out = moved 1 2 some (omega arith) (λ e. omega arith);
+      }
+
+pub drive-tables : DriveTables
+drive-tables = drive-table
