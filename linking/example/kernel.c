@@ -70,9 +70,23 @@ static void read_file(struct kernel *kernel, const char *path) {
     fclose(file);
 }
 
+/* The ring desk writes the flag too: it is the table of a drive of one ring, which build sets and take out clears. */
+static uint64_t check_drive_of_one_ring(void) {
+    enum { LENGTH = 1500, KEY = 1, WORDS = 2 };
+    static const uint32_t rings[WORDS] = {LENGTH, KEY};
+    static uint8_t room[DRIVE_LONGEST_FILE];
+    uint64_t written = desk_table(rings, WORDS, room, sizeof room);
+    expect_accepted(written, "the desk's table");
+    uint64_t owner = desk_owner(rings, WORDS, LENGTH);
+    expect_accepted(owner, "the desk's owner");
+    expect(drive_answer_ring(owner) == 1, "a key ring does not own its end");
+    return drive_check(room, drive_answer_length(written));
+}
+
 static void start(struct kernel *kernel) {
     uint64_t checked = drive_check(kernel->file, kernel->file_length);
     expect_accepted(checked, "check");
+    expect(checked == check_drive_of_one_ring(), "the table has another shape than that of one ring");
     uint64_t ceiling = drive_ceiling(TASKS);
     expect_accepted(ceiling, "ceiling");
     kernel->ceiling = drive_answer_ceiling(ceiling);

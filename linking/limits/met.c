@@ -23,7 +23,7 @@ enum { STEPS = 20000, SAMPLES = 8 };
 /* The numbers of phases are below it. */
 enum { PHASES = 88 };
 
-enum call { CHECK, START, BEGIN, STEP, BEGIN_RECORD, STEP_RECORD, CEILING, CALLS };
+enum call { CHECK, START, BEGIN, STEP, BEGIN_RECORD, STEP_RECORD, CEILING, OWNER, TABLE, CALLS };
 
 static struct {
     const char *name;
@@ -38,6 +38,8 @@ static struct {
     [BEGIN_RECORD] = {.name = "drive_begin_record"},
     [STEP_RECORD] = {.name = "drive_step_record"},
     [CEILING] = {.name = "drive_ceiling"},
+    [OWNER] = {.name = "desk_owner"},
+    [TABLE] = {.name = "desk_table"},
 };
 
 /* The call that is watched. A stack pointer is 0 as long as it is not known. */
@@ -202,6 +204,22 @@ static void start_and_begins(size_t tasks) {
     WATCHED(BEGIN_RECORD, where, drive_begin_record, file, file_length, tasks, 0, READING, &own);
 }
 
+/* The longest lists, asked for an owner of their end and of what lies past it. */
+static void desk_calls(void) {
+    static uint32_t rings[2 * DRIVE_MOST_RINGS];
+    static uint8_t room[DRIVE_LONGEST_FILE];
+    size_t words = sizeof rings / sizeof *rings;
+    for (uint32_t kind = 0; kind <= 1; kind++) {
+        for (size_t ring = 0; ring < DRIVE_MOST_RINGS; ring++) {
+            rings[2 * ring] = 1;
+            rings[2 * ring + 1] = kind;
+        }
+        WATCHED(OWNER, "the end of the longest list", desk_owner, rings, words, DRIVE_MOST_RINGS);
+        WATCHED(OWNER, "a chainage past the longest list", desk_owner, rings, words, DRIVE_MOST_RINGS + 1);
+        WATCHED(TABLE, "the longest list", desk_table, rings, words, room, sizeof room);
+    }
+}
+
 int main(void) {
     static uint8_t handlers_stack[1 << 16];
     stack_t stack = {.ss_sp = handlers_stack, .ss_size = sizeof handlers_stack};
@@ -211,6 +229,7 @@ int main(void) {
 
     make_table();
     WATCHED(CHECK, "the largest table", drive_check, file, file_length);
+    desk_calls();
     for (size_t tasks = 1; tasks <= DRIVE_MOST_TASKS; tasks++) {
         WATCHED(CEILING, "an accepted call", drive_ceiling, tasks);
         start_and_begins(tasks);

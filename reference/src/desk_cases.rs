@@ -78,17 +78,17 @@ fn with_all_joints(name: String, rings: Vec<u32>) -> Case {
 /// A case that is asked for its beginning, for the given joints and its end, each with the chainages just before and after,
 /// and for far chainages.
 fn case(name: String, rings: Vec<u32>, joints: &[u64]) -> Case {
-    let mut chainages = vec![0];
+    let mut chainages = vec![0, 1];
     for joint in joints.iter().copied().chain([end(&rings)]) {
         chainages.extend([joint.saturating_sub(1), joint, joint + 1]);
     }
     chainages.extend(FAR_CHAINAGES);
-    let file = 6 * (rings.len() / RING_WORDS) + 22;
+    let length = 6 * (rings.len() / RING_WORDS) + 22;
     Case {
         name,
         rings,
         chainages,
-        rooms: vec![0, file - 1, file, file + 1, file + 100],
+        rooms: vec![0, length - 1, length, length + 1, length + 100],
     }
 }
 
@@ -115,7 +115,7 @@ fn ends(rings: &[u32]) -> Vec<u64> {
         .collect()
 }
 
-/// Every list of one to three rings of length 1 to 3: all their chainages are near a joint.
+/// Every list of one to three rings of length 1 to 3: they are so short that every chainage is asked for.
 fn add_small_lists(cases: &mut Vec<Case>) {
     let single = [1, 2, 3].map(|length| [ORDINARY, KEY].map(|kind| vec![length, kind]));
     let single = single.concat();

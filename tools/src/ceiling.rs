@@ -2,6 +2,7 @@
 
 use drive_object::ceiling;
 
+use crate::number::grouped;
 use crate::refused;
 
 /// The longest operations known, for one to eight tasks; docs/CEILINGS.md says how each is known.
@@ -59,13 +60,5 @@ fn how_known(tasks: usize) -> &'static str {
         }
         ARGUED => "the longest there is: explored, and for schedules and tables left out argued, not proved",
         _ => "the longest known: a search found it, and a longer one may exist",
-    }
-}
-
-/// A number with a comma before every three digits.
-pub fn grouped(number: u64) -> String {
-    match number {
-        0..=999 => number.to_string(),
-        _ => format!("{},{:03}", grouped(number / 1_000), number % 1_000),
     }
 }

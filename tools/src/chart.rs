@@ -1,6 +1,7 @@
 //! `drive ceiling --chart`: ceiling, proved bound and longest known operation over the number of tasks.
 
-use crate::ceiling::{grouped, limits, Limits};
+use crate::ceiling::{limits, Limits};
+use crate::number::grouped;
 use crate::svg::{Anchor, Drawing};
 
 const WIDTH: f64 = 760.0;

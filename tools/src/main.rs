@@ -1,5 +1,5 @@
-//! `drive`: looks at objects and runs through the proved library, for people. What it shows of a call is what the archive
-//! answered and left.
+//! `drive`: looks at objects, runs and rings through the proved library, for people. What it shows of a call is what the
+//! archive answered and left.
 
 mod ceiling;
 mod chart;
@@ -8,12 +8,16 @@ mod legend;
 mod lines;
 mod names;
 mod narrative;
+mod number;
 mod object;
+mod owner;
 mod phase;
 mod picture;
 mod picture_rows;
 mod refused;
 mod reply;
+mod ring_table;
+mod rings;
 mod session;
 mod show;
 mod svg;
@@ -29,7 +33,7 @@ use std::process::ExitCode;
 use drive_object::LONGEST_FILE;
 
 /// The forms of the commands, and what each gives.
-const FORMS: [(&str, &str); 8] = [
+const FORMS: [(&str, &str); 10] = [
     (
         "check TABLE",
         "the shape of an object file, and which operations change the state",
@@ -46,15 +50,20 @@ const FORMS: [(&str, &str); 8] = [
         "ceiling --chart > X.svg",
         "the same for one to eight tasks, as a drawing",
     ),
+    ("owner RINGS CHAINAGE", "which ring owns a chainage"),
+    (
+        "ring-table RINGS > TABLE",
+        "the object file of a drive with these rings",
+    ),
     ("--help", "this text"),
 ];
 
 const FIRST: &str =
-    "drive looks at objects that tasks share, and at their runs, through the proved library.\n\n";
+    "drive looks at objects that tasks share, at their runs, and at rings, through the proved library.\n\n";
 
 const LAST: &str = "
-TABLE, TEXT and LINES are files; - is the standard input. docs/FORMATS.md says what a table and the bench's lines are,
-tools/README.md what the text of an object is.
+TABLE, TEXT, LINES and RINGS are files; - is the standard input. docs/FORMATS.md says what a table and the bench's lines are,
+tools/README.md what the texts of an object and of rings are. CHAINAGE is in whole millimetres.
 Exit status: 0, or 1 if something was refused or could not be read; the reason then stands on the standard error. A line
 of a run that is refused is part of its story, and no error.
 ";
@@ -94,12 +103,17 @@ fn output(arguments: &[OsString]) -> Result<Vec<u8>, String> {
         (_, rest) if command == "--help" || rest.iter().any(|word| *word == "--help") => {
             Ok(help().into_bytes())
         }
+        ("owner", [rings, chainage]) => {
+            let chainage = owner::chainage_of(&chainage.to_string_lossy())?;
+            owner::report(&read(rings)?, chainage).map(String::into_bytes)
+        }
         (_, [one, other]) if one == other && *one == "-" => {
             Err("the standard input can be only one of the files".into())
         }
         ("check", [table]) => check::report(&read_table(table)?).map(String::into_bytes),
         ("show", [table]) => show::text_of(&read_table(table)?).map(String::into_bytes),
         ("table", [text]) => table::file_of(&read(text)?),
+        ("ring-table", [rings]) => ring_table::file_of(&read(rings)?),
         ("run", [table, lines]) => {
             narrative::story(&read_table(table)?, &read(lines)?).map(String::into_bytes)
         }

@@ -5,7 +5,7 @@ use drive_object::{check, Refusal, Shape};
 use crate::names::Names;
 use crate::object::{self, Entry, Object};
 use crate::refused;
-use crate::text::unescape;
+use crate::text::{each_line, says_nothing, unescape};
 
 /// What the lines of a text say, each with its number.
 #[derive(Default)]
@@ -19,12 +19,8 @@ struct Said<'a> {
 
 /// The file, or what is wrong with the text.
 pub fn file_of(source: &[u8]) -> Result<Vec<u8>, String> {
-    let source = std::str::from_utf8(source).map_err(|_| "the text is not UTF-8")?;
     let mut said = Said::default();
-    for (at, line) in source.lines().enumerate() {
-        said.take(at + 1, line)
-            .map_err(|reason| format!("line {}: {reason}", at + 1))?;
-    }
+    each_line(source, |at, line| said.take(at, line))?;
     said.file()
 }
 
@@ -35,8 +31,7 @@ impl<'a> Said<'a> {
         }
         let words: Vec<&str> = line.split_whitespace().collect();
         match words.as_slice() {
-            [] => Ok(()),
-            [first, ..] if first.starts_with('#') => Ok(()),
+            words if says_nothing(words) => Ok(()),
             [from, by, "->", to, response] => {
                 self.entries.push((at, [from, by, to, response]));
                 Ok(())

@@ -1,7 +1,24 @@
-//! Bytes as text and back. A printable character stands for itself, a backslash is doubled, any other byte is `\x` and two
-//! hex digits.
+//! Texts that people write, line by line; and bytes as text and back: a printable character stands for itself, a backslash is
+//! doubled, any other byte is `\x` and two hex digits.
 
 use std::fmt::Write;
+
+/// Takes the lines of a text one by one, with their numbers from 1; what is wrong with a line is said with its number.
+pub fn each_line<'a>(
+    source: &'a [u8],
+    mut take: impl FnMut(usize, &'a str) -> Result<(), String>,
+) -> Result<(), String> {
+    let source = std::str::from_utf8(source).map_err(|_| "the text is not UTF-8")?;
+    for (at, line) in (1..).zip(source.lines()) {
+        take(at, line).map_err(|reason| format!("line {at}: {reason}"))?;
+    }
+    Ok(())
+}
+
+/// Whether a line of these words is empty or a comment.
+pub fn says_nothing(words: &[&str]) -> bool {
+    words.first().is_none_or(|first| first.starts_with('#'))
+}
 
 /// The bytes as text that `unescape` reads back.
 pub fn escape(bytes: &[u8]) -> String {

@@ -6,7 +6,7 @@ use crate::survey::Limits;
 use crate::turns::{Turn, Turns};
 
 /// The exported calls, in the page's order.
-pub const CALLS: [&str; 7] = [
+pub const CALLS: [&str; 9] = [
     "drive_check",
     "drive_start",
     "drive_begin",
@@ -14,7 +14,12 @@ pub const CALLS: [&str; 7] = [
     "drive_begin_record",
     "drive_step_record",
     "drive_ceiling",
+    "desk_owner",
+    "desk_table",
 ];
+
+/// How the names of exported calls begin.
+const EXPORTED: [&str; 2] = ["drive_", "desk_"];
 
 const OPENING: &str = "<!-- limits -->\n";
 const CLOSING: &str = "<!-- end of limits -->\n";
@@ -23,7 +28,7 @@ const CLOSING: &str = "<!-- end of limits -->\n";
 pub fn tables(known: &BTreeMap<String, Limits>, given: &[Turns]) -> Result<String, String> {
     let unknown = known
         .keys()
-        .find(|name| name.starts_with("drive_") && !CALLS.contains(&name.as_str()));
+        .find(|name| is_exported(name) && !CALLS.contains(&name.as_str()));
     if let Some(name) = unknown {
         return Err(format!("{name} is exported, and not among the calls"));
     }
@@ -42,6 +47,10 @@ pub fn tables(known: &BTreeMap<String, Limits>, given: &[Turns]) -> Result<Strin
         text.push_str(&format!("| `{function}` | {} |\n", product(turns)));
     }
     Ok(text)
+}
+
+fn is_exported(name: &str) -> bool {
+    EXPORTED.iter().any(|beginning| name.starts_with(beginning))
 }
 
 /// Loops in the order of their headers; one that stands in the last one multiplies.

@@ -2,7 +2,16 @@
 
 use crate::program::drive;
 
-const COMMANDS: [&str; 6] = ["check", "show", "table", "run", "picture", "ceiling"];
+const COMMANDS: [&str; 8] = [
+    "check",
+    "show",
+    "table",
+    "run",
+    "picture",
+    "ceiling",
+    "owner",
+    "ring-table",
+];
 
 #[test]
 fn help_names_every_command() {
@@ -31,6 +40,8 @@ fn other_words_are_refused_with_the_right_ones() {
         ("run", "drive run TABLE LINES"),
         ("picture", "drive picture TABLE LINES > X.svg"),
         ("ceiling", "drive ceiling N, or drive ceiling --chart > X.svg"),
+        ("owner", "drive owner RINGS CHAINAGE"),
+        ("ring-table", "drive ring-table RINGS > TABLE"),
     ] {
         for words in [vec![command], vec![command, "a", "b", "c"]] {
             let said = drive(&words, b"").failure();
@@ -91,6 +102,8 @@ fn a_file_that_cant_be_read_is_named() {
         vec!["table", "no/table"],
         vec!["run", "no/table", "-"],
         vec!["picture", "no/table", "-"],
+        vec!["owner", "no/table", "0"],
+        vec!["ring-table", "no/table"],
     ] {
         let said = drive(&words, b"").failure();
         assert!(said.starts_with("drive: no/table can't be read: "), "{said}");
@@ -99,10 +112,11 @@ fn a_file_that_cant_be_read_is_named() {
 
 #[test]
 fn a_dash_is_the_standard_input() {
-    let (table, text, lines) = (
+    let (table, text, lines, rings) = (
         "../crates/bench/data/table.bin",
         "examples/flag.txt",
         "../crates/bench/stdin",
+        "examples/rings.txt",
     );
     for words in [
         vec!["check", table],
@@ -110,6 +124,7 @@ fn a_dash_is_the_standard_input() {
         vec!["table", text],
         vec!["run", table, lines],
         vec!["picture", table, lines],
+        vec!["ring-table", rings],
     ] {
         let expected = drive(&words, b"").out;
         for at in 1..words.len() {

@@ -5,6 +5,7 @@ mod commands;
 mod drawing;
 mod pictures;
 mod program;
+mod rings;
 mod runs;
 mod second_run;
 mod tables;

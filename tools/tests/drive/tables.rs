@@ -19,7 +19,7 @@ fn files() -> Vec<Vec<u8>> {
 }
 
 /// What check prints for a table without names.
-fn report(table: &Table, text: usize) -> String {
+pub fn report(table: &Table, text: usize) -> String {
     let (states, operations, start) = (table.states, table.operations, table.start);
     let mut report = format!("states       {states}\noperations   {operations}\nstart state  {start}\n");
     report += &format!("free text    {text} bytes\n\n");
@@ -60,7 +60,7 @@ fn check_says_what_the_second_program_says() {
 }
 
 /// What is shown of a file reads back to its bytes, and has nothing that a reader or an editor would lose.
-fn reads_back(file: &[u8]) {
+pub fn reads_back(file: &[u8]) {
     let shown = drive(&["show", "-"], file).text();
     let visible = |line: &str| !line.ends_with(' ') && !line.contains(char::is_control);
     assert!(shown.split('\n').all(visible), "{shown}");

@@ -2,8 +2,12 @@
  * An archive that answers otherwise than the library, whatever it is lent: the start state is 1, operation 0 is changing and
  * the others are reading, every ceiling is 77, and a step of task 0 is refused with 12. A step of another task ends its
  * operation: a changing one leaves replies that moved in the cells and answers that nothing moved, a reading one leaves
- * everything and answers that the state moved. What drive shows must follow it.
+ * everything and answers that the state moved. A list with a ring of 1,000 millimetres is refused with 14, chainage 5 with 15,
+ * the table of two rings with 16; chainage 6 belongs to ring 9 and any other to the last ring; a table is a text, and that of
+ * three rings has more bytes than any room. What drive shows must follow it.
  */
+#include <string.h>
+
 #include "../../../linking/drive_object.h"
 
 enum { READ_ONLY = 1, ANNOUNCE = 2 };
@@ -55,4 +59,35 @@ uint64_t drive_step(const uint8_t *file, size_t file_length, uint64_t *cells, si
 uint64_t drive_ceiling(size_t task_count) {
     (void)task_count;
     return UINT64_C(77) << 32;
+}
+
+static bool has_ring_of(uint32_t length, const uint32_t *rings, size_t word_count) {
+    for (size_t word = 0; word < word_count; word += 2) {
+        if (rings[word] == length) {
+            return true;
+        }
+    }
+    return false;
+}
+
+uint64_t desk_owner(const uint32_t *rings, size_t word_count, uint64_t chainage) {
+    if (has_ring_of(1000, rings, word_count)) {
+        return DRIVE_RINGS;
+    }
+    if (chainage == 5) {
+        return DRIVE_CHAINAGE;
+    }
+    return (chainage == 6 ? UINT64_C(9) : word_count / 2) << 16;
+}
+
+uint64_t desk_table(const uint32_t *rings, size_t word_count, uint8_t *room, size_t room_length) {
+    static const char text[] = "a table\n";
+    if (has_ring_of(1000, rings, word_count)) {
+        return DRIVE_RINGS;
+    }
+    if (word_count == 4) {
+        return DRIVE_ROOM;
+    }
+    memcpy(room, text, sizeof text - 1);
+    return (word_count == 6 ? room_length + 1 : sizeof text - 1) << 32;
 }

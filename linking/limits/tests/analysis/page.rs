@@ -48,8 +48,10 @@ fn each_call_has_a_row() {
 fn other_calls_are_refused() {
     let few = limits(&[("drive_check", "ret")], "", &[]).unwrap();
     assert_refused(tables(&few, &[]), "drive_start is not in the archive");
-    let other = limits(&[("drive_other", "ret")], "", &[]).unwrap();
-    assert_refused(tables(&other, &[]), "drive_other is exported");
+    for name in ["drive_other", "desk_other"] {
+        let other = limits(&[(name, "ret")], "", &[]).unwrap();
+        assert_refused(tables(&other, &[]), &format!("{name} is exported"));
+    }
 }
 
 #[test]
