@@ -1,7 +1,7 @@
 -- Parts of a list, and writing one place of it.
-use mathlib.Core.Path.{_≡_, refl, sym, ap, _∙_}
+use mathlib.Core.Path.{_≡_, refl, sym, ap, subst, _∙_}
 use mathlib.Core.Bool.{Bool, true, false}
-use mathlib.Core.List.{List, [], _∷_, _++_}
+use mathlib.Core.List.{List, [], _∷_, _++_, append-nil, append-assoc}
 use Prim.Native.Nat.{ℕ, zero, suc, _+_, _-_, _<_, _≤_}
 use native.Mathlib.Numerals.{add-one}
 use native.Mathlib.Omega.{arith}
@@ -63,3 +63,11 @@ module _ {A : Type 0} (P : A → Type 0) (d : A) where
   pub append-all : (xs ys : List A) → ((k : ℕ) → P (getD xs k d)) → ((k : ℕ) → P (getD ys k d)) → (k : ℕ) → P (getD (xs ++ ys) k d)
   append-all [] ys first second k = second k
   append-all (x ∷ xs) ys first second k = cons-all x (xs ++ ys) (first 0) (append-all xs ys (λ i. first (suc i)) second) k
+
+-- What holds of the empty list, and of a list with one element more at its end, holds of every list.
+pub from-the-end : {A : Type 0} (P : List A → Type 0) → P [] → ((xs : List A) (x : A) → P xs → P (xs ++ (x ∷ []))) → (xs : List A) → P xs
+from-the-end P none more xs = go [] xs none
+  where
+    go : (done rest : List _) → P done → P (done ++ rest)
+    go done [] p = subst P (sym (append-nil done)) p
+    go done (x ∷ rest) p = subst P (append-assoc done (x ∷ []) rest) (go (done ++ (x ∷ [])) rest (more done x p))
