@@ -28,7 +28,7 @@ use Rattle.ring_desk.specs.Rings.{ringCount}
 use Rattle.ring_desk.specs.Table.{deskShape, deskFile, tableOf}
 use Rattle.ring_desk.specs.Statement.{InRange, Counts, read, build, build-at-last, take-out, take-out-at-none, DriveTable}
 use Rattle.ring_desk.proofs.DriveTables.{drive-tables}
-use Rattle.ring_desk.proofs.Written.{table-answered}
+use Rattle.ring_desk.proofs.Written.{table-answered, accepted-range}
 use Rattle.desk_run.specs.Statement.{Counted, none, then, AnswersCount, CountsRings, DriveRuns}
 use Rattle.desk_run.proofs.Order.{state-replayed, order-below}
 
@@ -120,9 +120,8 @@ module _ (rings : ℕ) (some : 1 ≤ rings) (few : rings ≤ 255) {file : List �
 
 pub drive-runs : (rings room : List ℕ) (bytes : ℕ) → DriveRuns rings room bytes
 drive-runs rings room bytes e cells row records few-records one-more =
-    let wrote = table-answered rings room in
-    let (range, _, _) = wrote .length-written bytes .0 e in
+    let range = accepted-range rings room bytes e in
     let k : ℕ = ringCount rings in
-    let written : take bytes (tableOf rings room .room) ≡ deskFile k = wrote .file-written bytes e .0 in
+    let written : take bytes (tableOf rings room .room) ≡ deskFile k = table-answered rings room .writes range .front bytes e in
     let o = opened k (range .some) (range .few) written cells row records few-records one-more in
     (started k (range .some) (range .few) written cells row records few-records one-more, (o, demands-met o, counts-rings k (range .some) (range .few) written o))

@@ -1,3 +1,4 @@
 pub mod Number
 pub mod Rows
 pub mod Written
+pub mod Statement

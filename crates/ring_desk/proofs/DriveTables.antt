@@ -17,6 +17,14 @@ use Rattle.ring_desk.proofs.Tables.{file-long}
 
 -- ---- Counting
 
+-- A take out takes one away, if there is one.
+one-away : (rings built operation : ℕ) → nextBuilt rings built (suc (suc operation)) ≡ built - 1
+one-away rings built operation = by (decLt 0 built)
+  where
+    by : Dec (0 < built) → nextBuilt rings built (suc (suc operation)) ≡ built - 1
+    by (yes h) = rw (lt-ltb 0 built h)
+    by (no n) = rw (le-ltb 0 built (omega arith)) (omega arith)
+
 -- The definition counts.
 next-counts : (rings built operation : ℕ) → built ≤ rings → operation < deskOperations → Counts rings built operation (nextBuilt rings built operation)
 next-counts rings built zero h l = read
@@ -29,7 +37,7 @@ next-counts rings zero (suc (suc zero)) h l = take-out-at-none
 next-counts rings (suc built) (suc (suc zero)) h l =
     let before : suc built ≡ built + 1 = omega arith in
     let after : suc built - 1 ≡ built = omega arith in
-    rw (after, before) take-out
+    rw (one-away rings (suc built) 0, after, before) take-out
 next-counts rings built (suc (suc (suc operation))) h l = absurd (omega arith)
 
 -- It counts in one way.
@@ -37,7 +45,7 @@ counts-next : (rings built operation after : ℕ) → Counts rings built operati
 counts-next rings built operation after read = refl
 counts-next rings built operation after (build below) = rw (lt-ltb _ _ below)
 counts-next rings built operation after build-at-last = rw (le-ltb rings rings (omega arith))
-counts-next rings built operation after take-out = omega arith
+counts-next rings built operation after take-out = omega (arith, one-away rings (after + 1) 0)
 counts-next rings built operation after take-out-at-none = refl
 
 next-below : (rings built operation : ℕ) → built < rings + 1 → operation < deskOperations → nextBuilt rings built operation < rings + 1
@@ -47,7 +55,7 @@ next-below rings built (suc zero) h l = by (decLt built rings)
     by : Dec (built < rings) → nextBuilt rings built 1 < rings + 1
     by (yes below) = rw (lt-ltb _ _ below) (omega arith)
     by (no n) = rw (le-ltb built rings (omega arith)) h
-next-below rings built (suc (suc operation)) h l = omega arith
+next-below rings built (suc (suc operation)) h l = omega (arith, one-away rings built operation)
 
 -- ---- The file
 

@@ -4,12 +4,12 @@ use mathlib.Core.Bool.{true, false}
 use mathlib.Core.List.{List, _++_}
 use Prim.Native.Nat.{ℕ, _+_, _*_, _<_, _≤_}
 use native.Mathlib.Omega.{arith}
-use borrow.Author.Tests.{le-leb, lt-leb}
 use lib.ListN.{length, drop}
 use lib.Seq.{sets, sets-eq}
 use Rattle.refusal.specs.declared.Refusal.the-variants.{Rings, Room}
 use Rattle.refusal.specs.declared.Written.the-variants as written
-use Rattle.refusal.specs.Written.{Writing, notWritten}
+use Rattle.refusal.specs.Written.{Writing, notWritten, writtenInto}
+use Rattle.refusal.proofs.Writes.{not-written, fully-written}
 use Rattle.table_writer.proofs.ReadsBack.{written-length}
 use Rattle.ring_desk.specs.Rings.{ringCount, ringsFit}
 use Rattle.ring_desk.specs.Table.{deskOperations, deskEntry, deskFile, tableOf}
@@ -29,17 +29,17 @@ module _ (rings room : List ℕ) where
   unfolding tableOf
   table-no-range e = simp e
 
+  pub table-in-range : ringsFit rings ≡ true → tableOf rings room ≡ writtenInto (deskFile (ringCount rings)) room
+  unfolding tableOf
+  table-in-range e = simp e
+
   module _ (fits : ringsFit rings ≡ true) where
     pub table-no-room : length room < 6 * ringCount rings + 22 → tableOf rings room ≡ notWritten Room room
-    unfolding tableOf
-    table-no-room short =
-        let less : length room < length (deskFile (ringCount rings)) = omega (arith, file-long (ringCount rings)) in
-        simp (fits, lt-leb _ _ less)
+    table-no-room short = table-in-range fits ∙ not-written (deskFile (ringCount rings)) room (omega (arith, file-long (ringCount rings)))
 
     pub table-written : 6 * ringCount rings + 22 ≤ length room
         → tableOf rings room ≡ record { answer = written.Length (6 * ringCount rings + 22); room = deskFile (ringCount rings) ++ drop (6 * ringCount rings + 22) room }
-    unfolding tableOf
-    table-written room-enough =
-        let enough : length (deskFile (ringCount rings)) ≤ length room = omega (arith, file-long (ringCount rings)) in
-        simp (fits, le-leb _ _ enough)
-        (ap (λ (n : ℕ). record { answer = written.Length n; room = deskFile (ringCount rings) ++ drop n room }) (file-long (ringCount rings)))
+    table-written enough =
+        table-in-range fits
+        ∙ fully-written (deskFile (ringCount rings)) room (omega (arith, file-long (ringCount rings)))
+        ∙ ap (λ (n : ℕ). record { answer = written.Length n; room = deskFile (ringCount rings) ++ drop n room }) (file-long (ringCount rings))

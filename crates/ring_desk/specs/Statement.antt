@@ -5,10 +5,10 @@ use mathlib.Core.Bool.{true, false}
 use mathlib.Core.Logic.{_↔_, _⊎_}
 use mathlib.Core.List.{List}
 use Prim.Native.Nat.{ℕ, _+_, _-_, _*_, _<_, _≤_}
-use lib.ListN.{length, take, drop}
-use Rattle.refusal.specs.declared.Refusal.{Refusal}
-use Rattle.refusal.specs.declared.Refusal.the-variants.{Rings, Chainage, Room}
+use lib.ListN.{length}
+use Rattle.refusal.specs.declared.Refusal.the-variants.{Rings, Chainage}
 use Rattle.refusal.specs.declared.Written.the-variants as written
+use Rattle.refusal.specs.Statement.{Writes}
 use Rattle.table.specs.declared.Checked.the-variants as table
 use Rattle.table.specs.File.{Bytes}
 use Rattle.table.specs.Check.{checkOf}
@@ -101,16 +101,10 @@ pub record DriveTable (rings : ℕ) : Type 0 where
 abbrev pub DriveTables : Type 0
 DriveTables = (rings : ℕ) → 1 ≤ rings → rings ≤ 255 → DriveTable rings
 
--- What the call that writes it answers and leaves, each answer in both directions.
+-- What the call that writes it answers and leaves.
 pub record TableAnswered (rings room : List ℕ) : Type 0 where
-  -- 14 exactly if the list is out of range.
+  -- 14 exactly if the list is out of range, and then the room is as it was.
   pub out-of-range : (tableOf rings room .answer ≡ written.Refused Rings) ↔ (InRange rings → ⊥)
-  -- 16 exactly if the list is in range and the room is shorter than the file.
-  pub no-room : (tableOf rings room .answer ≡ written.Refused Room) ↔ (InRange rings × (length room < 6 * ringCount rings + 22))
-  -- A length exactly if neither holds and it is that of the file, in bytes.
-  pub length-written : (bytes : ℕ) → (tableOf rings room .answer ≡ written.Length bytes) ↔ (InRange rings × (bytes ≤ length room) × (bytes ≡ 6 * ringCount rings + 22))
-  -- A refused call leaves the room as it was.
-  pub unchanged : (cause : Refusal) → tableOf rings room .answer ≡ written.Refused cause → tableOf rings room .room ≡ room
-  -- An accepted one leaves the file at the room's start, and every byte past it as it was.
-  pub file-written : (bytes : ℕ) → tableOf rings room .answer ≡ written.Length bytes
-      → (take bytes (tableOf rings room .room) ≡ deskFile (ringCount rings)) × (drop bytes (tableOf rings room .room) ≡ drop bytes room)
+  pub unchanged : (InRange rings → ⊥) → tableOf rings room .room ≡ room
+  -- A list in range: the drive's file is written into the room, or refused with 16.
+  pub writes : InRange rings → Writes (deskFile (ringCount rings)) room (tableOf rings room)

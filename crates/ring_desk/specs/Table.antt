@@ -19,7 +19,7 @@ deskOperations = 3
 abbrev pub nextBuilt : (rings built operation : ℕ) → ℕ
 nextBuilt rings built zero = built
 nextBuilt rings built (suc zero) = cond (ltb built rings) (built + 1) built
-nextBuilt rings built (suc (suc _)) = built - 1
+nextBuilt rings built (suc (suc _)) = cond (ltb 0 built) (built - 1) 0
 
 -- The response is the number of rings built before the operation.
 abbrev pub deskEntry : (rings built operation : ℕ) → Entry

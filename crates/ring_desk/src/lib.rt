@@ -141,18 +141,34 @@ pub fn owner(rings: &[u32], chainage: u64) -> OwnerAnswer
     }
 }
 
-// The rings built after a build: no more than all.
+// The rings built after a build: at the last ring no more.
 fn after_build(rings: u16, built: u16) -> u16
     ensures { λ r. ⌜ r ≡ nextBuilt rings built 1 ⌝ }
 {
-    if built < rings { built + 1 } else { built }
+    if rings <= built {
+        return built;
+    }
+    built + 1
 }
 
-// The rings built after a take out: no fewer than none.
+// The rings built after a take out: at none no fewer.
 fn after_take_out(built: u16) -> u16
-    ensures { λ r. ⌜ r ≡ built - 1 ⌝ }
+    ensures { λ r. ⌜ r ≡ nextBuilt 0 built 2 ⌝ }
 {
-    if 0 < built { built - 1 } else { 0 }
+    if built == 0 {
+        return 0;
+    }
+    built - 1
+}
+
+// An entry: its response is the number of rings built before.
+fn entry(next: u16, built: u16) -> Entry
+    ensures { λ r. ⌜ (r .next ≡ next) × (r .response ≡ built) ⌝ }
+{
+    Entry {
+        next: next,
+        response: built,
+    }
 }
 
 // Writes the entries of one state at a place of the room: read, build, take out.
@@ -160,18 +176,9 @@ fn write_state(room: &mut [u8], at: u32, rings: u16, built: u16)
     requires { ⌜ at ≤ 6 * mostRings ⌝ }
     ensures { λ _. ⌜ now (room .exit) ≡ sets (now (room .entry)) at (stateBytes deskOperations (deskEntry rings built)) ⌝ }
 {
-    let read = Entry {
-        next: built,
-        response: built,
-    };
-    let build = Entry {
-        next: after_build(rings, built),
-        response: built,
-    };
-    let take_out = Entry {
-        next: after_take_out(built),
-        response: built,
-    };
+    let read = entry(built, built);
+    let build = entry(after_build(rings, built), built);
+    let take_out = entry(after_take_out(built), built);
     table_writer::write_entry(room, at, read);
     table_writer::write_entry(room, at + 2, build);
     table_writer::write_entry(room, at + 4, take_out);
