@@ -26,7 +26,8 @@ use Rattle.stepping.specs.declared.answer.StartAnswer.the-variants as start
 use Rattle.refusal.specs.Written.{writtenSaid}
 use Rattle.refusal.specs.declared.Written.{Written}
 use Rattle.refusal.specs.declared.Written.the-variants as written
-use Rattle.ring_desk.specs.Owner.{ownerSaid}
+use Rattle.ring_desk.specs.Owner.{ownerOf, ownerSaid}
+use Rattle.ring_desk.proofs.Answers.{owner-answered}
 use Rattle.ring_desk.specs.declared.OwnerAnswer.{OwnerAnswer}
 use Rattle.ring_desk.specs.declared.OwnerAnswer.the-variants as owner
 use Rattle.drive_object.specs.Word.{wordOf, endedFlags, refusalIn, flagsIn, endedIn, movedIn, lowIn, highIn, valueAt, refusedWord, checkWord, startWord, answerWord, ceilingWord, ownerWord, writtenWord}
@@ -73,14 +74,26 @@ pub ceiling-read : (a : Ceiling) → (refusalIn (ceilingWord a) ≡ ceilingSaid 
 ceiling-read (ceiling.Steps k) = (omega arith, omega arith)
 ceiling-read (ceiling.Refused c) = (refused-read c .0, refused-read c .3)
 
--- A desk's answer shows its number, and the ring's number or the length that was written.
-pub owner-read : (a : OwnerAnswer) → valueAt (ownerSaid a) 0 < 65536 → (refusalIn (ownerWord a) ≡ ownerSaid a .number) × (lowIn (ownerWord a) ≡ valueAt (ownerSaid a) 0)
-owner-read (owner.Ring number) h = (omega arith, omega (arith, h))
-owner-read (owner.Refused c) h = (refused-read c .0, refused-read c .2)
+-- A desk's answer shows its number, the ring's number or the length that was written, and no flag.
+owner-read : (a : OwnerAnswer) → valueAt (ownerSaid a) 0 < 65536 → let w = ownerWord a in
+    (refusalIn w ≡ ownerSaid a .number) × (flagsIn w ≡ 0) × (lowIn w ≡ valueAt (ownerSaid a) 0) × (highIn w ≡ 0)
+owner-read (owner.Ring number) h = parts-read 0 0 number 0 (omega arith) (omega arith) h
+owner-read (owner.Refused c) h = refused-read c
 
-pub written-read : (a : Written) → (refusalIn (writtenWord a) ≡ writtenSaid a .number) × (highIn (writtenWord a) ≡ valueAt (writtenSaid a) 0)
-written-read (written.Length k) = (omega arith, omega arith)
-written-read (written.Refused c) = (refused-read c .0, refused-read c .3)
+pub desk-owner-read : (rings : List ℕ) (chainage : ℕ) → let a = ownerOf rings chainage in let w = ownerWord a in
+    (refusalIn w ≡ ownerSaid a .number) × (flagsIn w ≡ 0) × (lowIn w ≡ valueAt (ownerSaid a) 0) × (highIn w ≡ 0)
+desk-owner-read rings chainage = owner-read (ownerOf rings chainage) (small (ownerOf rings chainage) refl)
+  where
+    small : (a : OwnerAnswer) → ownerOf rings chainage ≡ a → valueAt (ownerSaid a) 0 < 65536
+    small (owner.Ring number) e =
+        let (range, (place, same, found)) = owner-answered rings chainage .owner number .0 e in
+        omega (arith, same, range .few, found .listed)
+    small (owner.Refused c) e = omega arith
+
+pub written-read : (a : Written) → let w = writtenWord a in
+    (refusalIn w ≡ writtenSaid a .number) × (flagsIn w ≡ 0) × (lowIn w ≡ 0) × (highIn w ≡ valueAt (writtenSaid a) 0)
+written-read (written.Length k) = parts-read 0 0 0 k (omega arith) (omega arith) (omega arith)
+written-read (written.Refused c) = refused-read c
 
 -- A check shows its number, and the three numbers of an accepted table.
 pub check-refused-read : (c : Refusal) → refusalIn (checkWord (table.Refused c)) ≡ numberOf c

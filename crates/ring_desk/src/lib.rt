@@ -66,9 +66,8 @@ fn kind_at(rings: &[u32], place: usize) -> u32
 fn each_ring_fits(rings: &[u32]) -> bool
     ensures { λ r. ⌜ r ≡ allBelow (ringCount (now (rings .entry))) (λ place. ringFits (lengthOf (now (rings .entry)) place) (kindOf (now (rings .entry)) place)) ⌝ }
 {
-    let count = rings.len() / 2;
     let mut place = 0;
-    while place < count {
+    while place < rings.len() / 2 {
         if !ring_fits(length_at(rings, place), kind_at(rings, place)) {
             return false;
         }

@@ -12,20 +12,20 @@ use Rattle.ring_desk.proofs.each_ring_fits.Statement.{statement}
 use Rattle.ring_desk.proofs.each_ring_fits.Tie as tie
 
 abbrev Inv-loop : tie.InvT-loop
-Inv-loop rings count place₀ place =
-    (place ≤ count) × ((k : ℕ) → k < place → ringFits (lengthOf rings k) (kindOf rings k) ≡ true)
+Inv-loop rings place₀ place =
+    (place ≤ ringCount rings) × ((k : ℕ) → k < place → ringFits (lengthOf rings k) (kindOf rings k) ≡ true)
 
 abbrev μ-loop : tie.MeasureT-loop
-μ-loop rings count place₀ place = count - place
+μ-loop rings place₀ place = ringCount rings - place
 
 loop-holds : tie.Need-loop-holds Inv-loop μ-loop
 loop-holds c = (omega arith, λ k h. absurd (omega arith))
 
 length-at-requires : tie.Need-length-at-requires Inv-loop μ-loop
-length-at-requires c κs = c .loop-test .taken
+length-at-requires c κs = omega arith
 
 kind-at-requires : tie.Need-kind-at-requires Inv-loop μ-loop
-kind-at-requires c κs = c .before .loop-test .taken
+kind-at-requires c κs = omega arith
 
 ring-fits-requires : tie.Need-ring-fits-requires Inv-loop μ-loop
 ring-fits-requires c κs = search needs
