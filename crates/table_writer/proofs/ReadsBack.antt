@@ -27,10 +27,9 @@ state-length : (m : ℕ) (entry : ℕ → Entry) → length (stateBytes m entry)
 state-length m entry = joined-length (λ o. entryBytesOf (entry o)) entryBytes (λ _. refl) m
 
 pub entries-length : (s m : ℕ) (entry : ℕ → ℕ → Entry) → length (entriesOf s m entry) ≡ entryBytes * (s * m)
-entries-length s m entry = omega (arith, joined-length (λ q. stateBytes m (entry q)) (entryBytes * m) (λ q. state-length m (entry q)) s)
-
-entry-bytes : (entry : Entry) → Bytes (entryBytesOf entry)
-entry-bytes entry = two-bytes (entry .next % 256) (entry .response % 256) (omega arith) (omega arith)
+entries-length s m entry =
+    let long : length (entriesOf s m entry) ≡ entryBytes * m * s = joined-length _ (entryBytes * m) (λ q. state-length m _) s in
+    omega arith
 
 -- ---- The file
 
@@ -70,6 +69,9 @@ module _ (s m start : ℕ) (entry : ℕ → ℕ → Entry) where
           operations = omega (arith, limits .few-operations);
           start = omega (arith, limits .few-states, limits .start-below);
         }
+
+    entry-bytes : (e : Entry) → Bytes (entryBytesOf e)
+    entry-bytes e = two-bytes (e .next % 256) (e .response % 256) (omega arith) (omega arith)
 
     written-bytes : Bytes (fileOf s m start entry)
     unfolding fileOf

@@ -20,6 +20,40 @@ pub record Fields (shape : Shape) : Type 0 where
   pub operations : shape .operations < 65536
   pub start : shape .start < 65536
 
+-- ---- What is read
+
+module _ (front : List ℕ) (shape : Shape) where
+  pub file-length : length (front ++ trailerOf shape) ≡ length front + trailerBytes
+  file-length = length-append front (trailerOf shape)
+
+  byte-at : (place i : ℕ) → place ≡ length front + i → byteAt (front ++ trailerOf shape) place ≡ byteAt (trailerOf shape) i
+  byte-at place i e = rw e (getD-append-add front (trailerOf shape) i 0)
+
+  number-at : (place i : ℕ) → place ≡ length front + i → number16 (front ++ trailerOf shape) place ≡ number16 (trailerOf shape) i
+  number-at place i e = rw (byte-at place i e, byte-at (place + 1) (i + 1) (omega arith))
+
+  -- The trailer says the shape.
+  pub shape-read : Fields shape → shapeOf (front ++ trailerOf shape) ≡ shape
+  unfolding shapeOf
+  shape-read fit =
+      let at : ℕ = length (front ++ trailerOf shape) - trailerBytes in
+      let file : List ℕ = front ++ trailerOf shape in
+      let here : at ≡ length front = omega (arith, file-length) in
+      let states : number16 file (at + 4) ≡ shape .states = rw (number-at (at + 4) 4 (omega arith)) (omega (arith, fit .states)) in
+      let operations : number16 file (at + 6) ≡ shape .operations = rw (number-at (at + 6) 6 (omega arith)) (omega (arith, fit .operations)) in
+      let start : number16 file (at + 8) ≡ shape .start = rw (number-at (at + 8) 8 (omega arith)) (omega (arith, fit .start)) in
+      let offset : number32 file at ≡ shape .offset = rw (number-at at 0 (omega arith), number-at (at + 2) 2 (omega arith)) (omega (arith, fit .offset)) in
+      rw (offset, states, operations, start)
+
+  -- The file ends in the mark.
+  pub mark-read : endsInMark (front ++ trailerOf shape) ≡ true
+  unfolding endsInMark
+  mark-read =
+      let fields : List ℕ = bytes32 (shape .offset) ++ bytes16 (shape .states) ++ bytes16 (shape .operations) ++ bytes16 (shape .start) in
+      let file : List ℕ = front ++ trailerOf shape in
+      simp (le-leb markBytes (length file) (omega (arith, file-length)))
+      (all-of markBytes _ (λ i h. eq-eqb _ _ (byte-at (length file - markBytes + i) (10 + i) (omega (arith, file-length)) ∙ getD-append-add fields mark i 0)))
+
 -- ---- Its bytes
 
 pub two-bytes : (a b : ℕ) → a < 256 → b < 256 → Bytes (a ∷ b ∷ [])
@@ -45,37 +79,3 @@ trailer-bytes shape fit =
     let operations = both-bytes (bytes32 (shape .offset) ++ bytes16 (shape .states)) (bytes16 (shape .operations)) states (number-bytes _ (fit .operations)) in
     let start = both-bytes (bytes32 (shape .offset) ++ bytes16 (shape .states) ++ bytes16 (shape .operations)) (bytes16 (shape .start)) operations (number-bytes _ (fit .start)) in
     both-bytes (bytes32 (shape .offset) ++ bytes16 (shape .states) ++ bytes16 (shape .operations) ++ bytes16 (shape .start)) mark start mark-bytes
-
--- ---- What is read
-
-module _ (front : List ℕ) (shape : Shape) where
-  pub file-length : length (front ++ trailerOf shape) ≡ length front + trailerBytes
-  file-length = length-append front (trailerOf shape)
-
-  byte-at : (place i : ℕ) → place ≡ length front + i → byteAt (front ++ trailerOf shape) place ≡ byteAt (trailerOf shape) i
-  byte-at place i e = rw e (getD-append-add front (trailerOf shape) i 0)
-
-  number-at : (place i : ℕ) → place ≡ length front + i → number16 (front ++ trailerOf shape) place ≡ number16 (trailerOf shape) i
-  number-at place i e = rw (byte-at place i e, byte-at (place + 1) (i + 1) (omega arith))
-
-  -- The trailer says the shape.
-  pub shape-read : Fields shape → shapeOf (front ++ trailerOf shape) ≡ shape
-  unfolding shapeOf
-  shape-read fit =
-      let at : ℕ = length (front ++ trailerOf shape) - trailerBytes in
-      let file : List ℕ = front ++ trailerOf shape in
-      let here : at ≡ length front = omega (arith, file-length) in
-      let offset : number32 file at ≡ shape .offset = rw (number-at at 0 (omega arith), number-at (at + 2) 2 (omega arith)) (omega (arith, fit .offset)) in
-      let states : number16 file (at + 4) ≡ shape .states = rw (number-at (at + 4) 4 (omega arith)) (omega (arith, fit .states)) in
-      let operations : number16 file (at + 6) ≡ shape .operations = rw (number-at (at + 6) 6 (omega arith)) (omega (arith, fit .operations)) in
-      let start : number16 file (at + 8) ≡ shape .start = rw (number-at (at + 8) 8 (omega arith)) (omega (arith, fit .start)) in
-      rw (offset, states, operations, start)
-
-  -- The file ends in the mark.
-  pub mark-read : endsInMark (front ++ trailerOf shape) ≡ true
-  unfolding endsInMark
-  mark-read =
-      let fields : List ℕ = bytes32 (shape .offset) ++ bytes16 (shape .states) ++ bytes16 (shape .operations) ++ bytes16 (shape .start) in
-      let file : List ℕ = front ++ trailerOf shape in
-      simp (le-leb markBytes (length file) (omega (arith, file-length)))
-      (all-of markBytes _ (λ i h. eq-eqb _ _ (byte-at (length file - markBytes + i) (10 + i) (omega (arith, file-length)) ∙ getD-append-add fields mark i 0)))

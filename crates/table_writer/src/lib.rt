@@ -64,12 +64,9 @@ fn put_mark(room: &mut [u8], at: usize)
 pub fn write_entry(room: &mut [u8], at: u32, entry: Entry)
     ensures { λ _. ⌜ now (room .exit) ≡ sets (now (room .entry)) at (entryBytesOf entry) ⌝ }
 {
-    put_two(
-        room,
-        at as usize,
-        (entry.next % 256) as u8,
-        (entry.response % 256) as u8,
-    );
+    let next = (entry.next % 256) as u8;
+    let response = (entry.response % 256) as u8;
+    put_two(room, at as usize, next, response);
 }
 
 // Writes a trailer at a place of the room.
