@@ -1,5 +1,5 @@
 -- A run over a table that the desk has written counts rings.
-use mathlib.Core.Path.{_≡_, refl, sym, ap, subst, _∙_}
+use mathlib.Core.Path.{_≡_, sym, ap, subst, _∙_}
 use mathlib.Core.Bool.{Bool, not}
 use mathlib.Core.List.{List, [], _∷_}
 use Prim.Native.Nat.{ℕ, zero, suc, _+_, _<_, _≤_}
@@ -16,17 +16,17 @@ use Rattle.table.specs.Check.{checkOf}
 use Rattle.table.proofs.Accepted.{accepted-fitting}
 use Rattle.machine.specs.Calls.{Call}
 use Rattle.machine.specs.Book.{Operation}
-use Rattle.machine.specs.History.{Begins, Ends, reached}
+use Rattle.machine.specs.History.{reached}
 use Rattle.records.specs.declared.record.Task.{Task}
 use Rattle.stepping.specs.declared.answer.StartAnswer.the-variants.{Started}
 use Rattle.stepping.specs.Call.{startOf}
 use Rattle.stepping.specs.Runs.{Store}
-use Rattle.stepping.specs.Opening.{Opening, objectIn, shown, startStore}
+use Rattle.stepping.specs.Opening.{Opening, objectIn, startStore}
 use Rattle.stepping.specs.Statement.{Demands, EntryUsed}
 use Rattle.stepping.proofs.Theorem.{start-accepted, start-opens, demands-met, answered-known}
 use Rattle.ring_desk.specs.Rings.{ringCount}
 use Rattle.ring_desk.specs.Table.{deskShape, deskFile, tableOf}
-use Rattle.ring_desk.specs.Statement.{InRange, Counts, read, build, build-at-last, take-out, take-out-at-none, DriveTable}
+use Rattle.ring_desk.specs.Statement.{Counts, read, build, build-at-last, take-out, take-out-at-none, DriveTable}
 use Rattle.ring_desk.proofs.DriveTables.{drive-tables}
 use Rattle.ring_desk.proofs.Written.{table-answered, accepted-range}
 use Rattle.desk_run.specs.Statement.{Counted, none, then, AnswersCount, CountsRings, DriveRuns}

@@ -1,4 +1,4 @@
-// The calls for kernels in C and Rust: each answer is one word.
+// The calls for kernels in C and Rust, and those of the ring desk: each answer is one word.
 use cells::bit;
 use cells::ceiling;
 use cells::ceiling::Ceiling;

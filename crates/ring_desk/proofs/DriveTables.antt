@@ -10,7 +10,6 @@ use Rattle.table.specs.declared.Entry.{Entry}
 use Rattle.table.specs.Entries.{entryOf, moves, changing}
 use Rattle.table_writer.specs.Statement.{WithinLimits, ReadsBack}
 use Rattle.table_writer.proofs.ReadsBack.{reads-back}
-use Rattle.ring_desk.specs.Rings.{mostRings}
 use Rattle.ring_desk.specs.Table.{deskOperations, nextBuilt, deskEntry, deskShape, deskFile}
 use Rattle.ring_desk.specs.Statement.{Counts, read, build, build-at-last, take-out, take-out-at-none, DriveTable, DriveTables}
 use Rattle.ring_desk.proofs.Tables.{file-long}

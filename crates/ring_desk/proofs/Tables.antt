@@ -1,5 +1,5 @@
 -- What the call that writes the table answers and leaves, case by case.
-use mathlib.Core.Path.{_≡_, refl, sym, ap, _∙_}
+use mathlib.Core.Path.{_≡_, ap, _∙_}
 use mathlib.Core.Bool.{true, false}
 use mathlib.Core.List.{List, _++_}
 use Prim.Native.Nat.{ℕ, _+_, _*_, _<_, _≤_}
@@ -8,7 +8,7 @@ use lib.ListN.{length, drop}
 use lib.Seq.{sets, sets-eq}
 use Rattle.refusal.specs.declared.Refusal.the-variants.{Rings, Room}
 use Rattle.refusal.specs.declared.Written.the-variants as written
-use Rattle.refusal.specs.Written.{Writing, notWritten, writtenInto}
+use Rattle.refusal.specs.Written.{notWritten, writtenInto}
 use Rattle.refusal.proofs.Writes.{not-written, fully-written}
 use Rattle.table_writer.proofs.ReadsBack.{written-length}
 use Rattle.ring_desk.specs.Rings.{ringCount, ringsFit}

@@ -1,19 +1,18 @@
 -- What the call that writes the table answers and leaves.
 use mathlib.Core.Path.{_≡_, refl, sym, ap, subst, _∙_}
 use mathlib.Core.Bool.{Bool, true, false}
-use mathlib.Core.Logic.{_↔_}
 use mathlib.Core.List.{List}
 use Prim.Native.Nat.{ℕ}
 use Rattle.laws.proofs.Clash.{never}
-use Rattle.refusal.specs.declared.Refusal.the-variants.{Rings, Room}
+use Rattle.refusal.specs.declared.Refusal.the-variants.{Rings}
 use Rattle.refusal.specs.declared.Written.the-variants.{Length}
-use Rattle.refusal.specs.Written.{Writing, notWritten, writtenInto}
+use Rattle.refusal.specs.Written.{Writing}
 use Rattle.refusal.specs.Statement.{Writes}
 use Rattle.refusal.proofs.Writes.{writes-into}
 use Rattle.ring_desk.specs.Rings.{ringCount, ringsFit}
 use Rattle.ring_desk.specs.Table.{deskFile, tableOf}
 use Rattle.ring_desk.specs.Statement.{InRange, TableAnswered}
-use Rattle.ring_desk.proofs.Ranges.{fits-range, range-fits}
+use Rattle.ring_desk.proofs.Ranges.{fits-range}
 use Rattle.ring_desk.proofs.Answers.{no-range}
 use Rattle.ring_desk.proofs.Tables.{table-no-range, table-in-range}
 

@@ -1,17 +1,15 @@
 -- A file that is written reads back as what was written.
 use mathlib.Core.Path.{_≡_, refl, sym, ap, _∙_}
-use mathlib.Core.List.{List, [], _∷_, _++_}
-use Prim.Native.Nat.{ℕ, zero, suc, _+_, _*_, _/_, _%_, _<_, _≤_}
-use native.Mathlib.Nat.{mul-le-mul-right, not-suc-le-zero}
+use mathlib.Core.List.{List}
+use Prim.Native.Nat.{ℕ, suc, _+_, _*_, _%_, _<_, _≤_}
+use native.Mathlib.Nat.{mul-le-mul-right}
 use native.Mathlib.Omega.{arith}
-use lib.ListN.{length, getD, length-append, List·getD-append}
-use Rattle.laws.specs.Joined.{joined}
+use lib.ListN.{length, List·getD-append}
 use Rattle.laws.proofs.Lists.{append-all}
 use Rattle.laws.proofs.Joined.{joined-length, joined-at, joined-all}
-use Rattle.table.specs.declared.Shape.{Shape}
 use Rattle.table.specs.declared.Entry.{Entry}
 use Rattle.table.specs.declared.Checked.the-variants.{Accepted}
-use Rattle.table.specs.File.{byteAt, Bytes, mark, trailerBytes}
+use Rattle.table.specs.File.{byteAt, Bytes}
 use Rattle.table.specs.Entries.{entryBytes, entryPlace, entryOf}
 use Rattle.table.specs.Layout.{fileLength}
 use Rattle.table.specs.Check.{checkOf}

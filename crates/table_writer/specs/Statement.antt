@@ -1,9 +1,7 @@
 -- What is proved of a file that is written: it is accepted, and reads back as what was written.
 use mathlib.Core.Path.{_≡_}
-use mathlib.Core.List.{List}
 use Prim.Native.Nat.{ℕ, _<_, _≤_}
 use lib.ListN.{length}
-use Rattle.table.specs.declared.Shape.{Shape}
 use Rattle.table.specs.declared.Entry.{Entry}
 use Rattle.table.specs.declared.Checked.the-variants.{Accepted}
 use Rattle.table.specs.File.{Bytes}

@@ -35,11 +35,19 @@ const RECORDS: Turn = Turn {
     over: "records",
 };
 
-/// Tests come before the loops: 2 holds states and operations to these numbers, 5 the records.
-pub const GIVEN: [Turns<'static>; 3] = [
+const RINGS: Turn = Turn {
+    depth: 1,
+    most: 255,
+    over: "rings",
+};
+
+/// Tests come before the loops: 2 holds states and operations to these numbers, 5 the records, 14 the rings.
+pub const GIVEN: [Turns<'static>; 5] = [
     ("drive_check", &[OPERATIONS, STATES_OF_EACH]),
     ("drive_start", &[OPERATIONS, STATES_OF_EACH, RECORDS, RECORDS]),
     ("stepping::call::begin_task", &[STATES, STATES]),
+    ("desk_owner", &[RINGS, RINGS]),
+    ("desk_table", &[RINGS, STATES]),
 ];
 
 /// How often each header is run at most, by the header.

@@ -1,6 +1,6 @@
 use native.Mathlib.Omega.{arith}
 use borrow.Author.Needs.{needs}
-use borrow.Author.Tests.{lt-ltb, le-ltb}
+use borrow.Author.Tests.{lt-ltb}
 use Rattle.ring_desk.proofs.after_take_out.Statement.{statement}
 use Rattle.ring_desk.proofs.after_take_out.Tie as tie
 

@@ -8,7 +8,7 @@ use native.Mathlib.Omega.{arith}
 use borrow.Author.Count.{below-more}
 use borrow.Author.Needs.{needs}
 use Rattle.laws.proofs.Lowest.{lowest-at, lowest-none}
-use Rattle.ring_desk.specs.Rings.{longestRing, ringCount, startOf, lengthOf}
+use Rattle.ring_desk.specs.Rings.{longestRing, ringCount, startOf}
 use Rattle.ring_desk.specs.Owner.{owns}
 use Rattle.ring_desk.proofs.Ranges.{fits-range}
 use Rattle.ring_desk.proofs.first_owner.Statement.{statement}
