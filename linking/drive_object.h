@@ -39,8 +39,14 @@ extern "C" {
 /* The longest table file in bytes. */
 #define DRIVE_LONGEST_FILE 20496
 
-/* The most rings of a list. */
+/* The most rings of a list, and how many words each has: its length and its kind, one of the two below. */
 #define DRIVE_MOST_RINGS 255
+#define DRIVE_RING_WORDS 2
+#define DRIVE_ORDINARY 0
+#define DRIVE_KEY 1
+
+/* The longest table file of a drive in bytes, that of 255 rings. */
+#define DRIVE_LONGEST_RING_TABLE 1552
 
 /* Why a call is not served; docs/FORMATS.md, "When a call is not served". 13 is the bench's own. */
 enum drive_refusal {
@@ -131,7 +137,7 @@ uint64_t drive_ceiling(size_t task_count);
 
 /*
  * Which ring owns a chainage in millimetres. `rings` is a list of 1 to 255 rings in 32-bit words, two for each ring: its
- * length in millimetres, 1 to 20,000, and its kind, 0 ordinary or 1 key; `word_count` is the number of words. Ring 1
+ * length in millimetres, 1 to 20,000, and its kind, 0 ordinary or 1 key; `word_count` is the number of words, twice that of the rings. Ring 1
  * begins at chainage 0, each other one at the end of the one before. An ordinary ring owns its start and not its end, a
  * key ring owns both; if two own the chainage, the lower number is given. Tests 14 on the whole list, then 15. Writes
  * nothing. Answers the number of the ring, from 1. Its cost grows with the number of rings.

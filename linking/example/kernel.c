@@ -8,6 +8,7 @@
 #include <inttypes.h>
 #include <stdio.h>
 #include <stdlib.h>
+#include <string.h>
 
 #include "../drive_object.h"
 
@@ -71,22 +72,23 @@ static void read_file(struct kernel *kernel, const char *path) {
 }
 
 /* The ring desk writes the flag too: it is the table of a drive of one ring, which build sets and take out clears. */
-static uint64_t check_drive_of_one_ring(void) {
-    enum { LENGTH = 1500, KEY = 1, WORDS = 2 };
-    static const uint32_t rings[WORDS] = {LENGTH, KEY};
-    static uint8_t room[DRIVE_LONGEST_FILE];
-    uint64_t written = desk_table(rings, WORDS, room, sizeof room);
+static void expect_drive_of_one_ring(const struct kernel *kernel) {
+    enum { LENGTH = 1500 };
+    static const uint32_t rings[DRIVE_RING_WORDS] = {LENGTH, DRIVE_KEY};
+    static uint8_t room[DRIVE_LONGEST_RING_TABLE];
+    uint64_t written = desk_table(rings, DRIVE_RING_WORDS, room, sizeof room);
     expect_accepted(written, "the desk's table");
-    uint64_t owner = desk_owner(rings, WORDS, LENGTH);
+    expect(drive_answer_length(written) == kernel->file_length && memcmp(room, kernel->file, kernel->file_length) == 0,
+           "the table is not that of one ring");
+    uint64_t owner = desk_owner(rings, DRIVE_RING_WORDS, LENGTH);
     expect_accepted(owner, "the desk's owner");
     expect(drive_answer_ring(owner) == 1, "a key ring does not own its end");
-    return drive_check(room, drive_answer_length(written));
 }
 
 static void start(struct kernel *kernel) {
     uint64_t checked = drive_check(kernel->file, kernel->file_length);
     expect_accepted(checked, "check");
-    expect(checked == check_drive_of_one_ring(), "the table has another shape than that of one ring");
+    expect_drive_of_one_ring(kernel);
     uint64_t ceiling = drive_ceiling(TASKS);
     expect_accepted(ceiling, "ceiling");
     kernel->ceiling = drive_answer_ceiling(ceiling);

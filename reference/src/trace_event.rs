@@ -212,7 +212,7 @@ fn sentence(refusal: Refusal) -> &'static str {
         Refusal::Cell => "the touched cell is out of form",
         Refusal::Line => "the line has no known form, or stands before an accepted n line",
         Refusal::Rings => {
-            "the rings are not 1 to 255, or a ring's length is not 1 to 20,000 or its kind not ordinary or key"
+            "the list is not of 1 to 255 whole rings, or a ring's length is not 1 to 20,000 or its kind not ordinary or key"
         }
         Refusal::Chainage => "no ring owns the chainage",
         Refusal::Room => "the room is shorter than what is to be written",

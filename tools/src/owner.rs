@@ -8,9 +8,10 @@ use crate::rings::Rings;
 
 /// The chainage that a word stands for.
 pub fn chainage_of(word: &str) -> Result<u64, String> {
-    let last = grouped(u64::MAX);
-    of_digits(word)
-        .ok_or_else(|| format!("'{word}' is no chainage: chainages are whole millimetres from 0 to {last}"))
+    let last = u64::MAX;
+    of_digits(word).ok_or_else(|| {
+        format!("'{word}' is no chainage: chainages are whole millimetres in digits alone, from 0 to {last}")
+    })
 }
 
 /// The library's answer in a line, with the kind, the start and the end that the list gives that ring.

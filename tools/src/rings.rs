@@ -1,6 +1,6 @@
 //! A list of rings, from a text that has a line for each; and what is said if the library refuses it.
 
-use drive_object::{owner, Refusal};
+use drive_object::{owner, Refusal, RING_WORDS};
 
 use crate::number::{grouped, of_digits};
 use crate::refused;
@@ -8,9 +8,6 @@ use crate::text::{each_line, says_nothing};
 
 /// The kinds of rings by the library's numbers, as a text has them.
 const KINDS: [&str; 2] = ["ordinary", "key"];
-
-/// The library's words for a ring: its length and its kind.
-const RING_WORDS: usize = 2;
 
 /// The rings of a text, in order.
 #[derive(Default)]
@@ -93,8 +90,9 @@ impl Rings {
 }
 
 fn length_of(word: &str) -> Result<u32, String> {
-    of_digits(word)
-        .ok_or_else(|| format!("{word} is no length: lengths are whole millimetres, and fit in 32 bits"))
+    of_digits(word).ok_or_else(|| {
+        format!("{word} is no length: lengths are whole millimetres in digits alone, and fit in 32 bits")
+    })
 }
 
 fn kind_of(word: &str) -> Result<u32, String> {

@@ -14,9 +14,12 @@ use Rattle.table.specs.File.{Bytes, shapeOf}
 use Rattle.table.specs.Entries.{moves, entryOf}
 use Rattle.table.specs.Check.{checkOf}
 use Rattle.table.proofs.Accepted.{accepted-fitting}
+use Rattle.machine.specs.Outcome.{Outcome}
 use Rattle.machine.specs.Calls.{Call}
 use Rattle.machine.specs.Book.{Operation}
-use Rattle.machine.specs.History.{reached}
+use Rattle.machine.specs.History.{reached, replayed}
+use Rattle.machine.proofs.Book.Replay.{replayed-at}
+use Rattle.machine.proofs.Whole.Books.{state-replayed, order-below}
 use Rattle.records.specs.declared.record.Task.{Task}
 use Rattle.stepping.specs.declared.answer.StartAnswer.the-variants.{Started}
 use Rattle.stepping.specs.Call.{startOf}
@@ -26,20 +29,12 @@ use Rattle.stepping.specs.Statement.{Demands, EntryUsed}
 use Rattle.stepping.proofs.Theorem.{start-accepted, start-opens, demands-met, answered-known}
 use Rattle.ring_desk.specs.Rings.{ringCount}
 use Rattle.ring_desk.specs.Table.{deskShape, deskFile, tableOf}
-use Rattle.ring_desk.specs.Statement.{Counts, read, build, build-at-last, take-out, take-out-at-none, DriveTable}
-use Rattle.ring_desk.proofs.DriveTables.{drive-tables}
-use Rattle.ring_desk.proofs.Written.{table-answered, accepted-range}
+use Rattle.ring_desk.specs.Statement.{Counts, DriveTable}
+use Rattle.ring_desk.proofs.DriveTables.{counts-few, drive-tables}
+use Rattle.ring_desk.proofs.WrittenTable.{table-answered, accepted-range}
 use Rattle.desk_run.specs.Statement.{Counted, none, then, AnswersCount, CountsRings, DriveRuns}
-use Rattle.desk_run.proofs.Order.{state-replayed, order-below}
 
 -- No more than all rings are built.
-counts-few : {rings built operation after : ℕ} → Counts rings built operation after → built ≤ rings → after ≤ rings
-counts-few read h = h
-counts-few (build l) h = omega arith
-counts-few build-at-last h = h
-counts-few take-out h = omega arith
-counts-few take-out-at-none h = h
-
 counted-few : {rings before after : ℕ} {xs : List Operation} → Counted rings before xs after → before ≤ rings → after ≤ rings
 counted-few none h = h
 counted-few (then c rest) h = counted-few rest (counts-few c h)
@@ -49,7 +44,7 @@ module _ (rings : ℕ) (some : 1 ≤ rings) (few : rings ≤ 255) {file : List �
   facts = drive-tables rings some few
 
   accepted : checkOf file ≡ table.Accepted (deskShape rings)
-  accepted = ap checkOf written ∙ facts .accepted
+  accepted = ap checkOf written ∙ facts .accepts
 
   module _ {n : ℕ} {s : Store} (o : Opening file n 0 s) where
     shape-is : o .shape ≡ deskShape rings
@@ -100,10 +95,18 @@ module _ (rings : ℕ) (some : 1 ≤ rings) (few : rings ≤ 255) {file : List �
             moved-is = used .moved-used ∙ ap (λ (k : ℕ). not (eqb (objectIn o .next before (x .operation)) k)) (sym same);
           }
 
+      -- By the replay at its place, an operation of the order used its entry.
+      entered-counted : (i : ℕ) (x : Operation) → At order i x → let v = replayed (objectIn o) 0 order i in AnswersCount rings order x (v .response) (v .moved)
+      entered-counted i x at =
+          let v = replayed (objectIn o) 0 order i in
+          let same = replayed-at (objectIn o) 0 at in
+          answer-counted x (v .response) (v .moved) (record { place = i; stands = at; response-used = ap (λ (w : Outcome). w .response) same; moved-used = ap (λ (w : Outcome). w .moved) same })
+
     counts-rings : (d : Demands o) → CountsRings rings o d
     counts-rings d =
         record {
           state = state-counted d;
+          entered = λ xs i x at. entered-counted d xs i x at;
           answers = λ xs x p r moved begins ends. answer-counted d xs x r moved (answered-known o d xs x p r moved begins ends);
         }
 
@@ -122,6 +125,8 @@ pub drive-runs : (rings room : List ℕ) (bytes : ℕ) → DriveRuns rings room 
 drive-runs rings room bytes e cells row records few-records one-more =
     let range = accepted-range rings room bytes e in
     let k : ℕ = ringCount rings in
-    let written : take bytes (tableOf rings room .room) ≡ deskFile k = table-answered rings room .writes range .front bytes e in
+    let wrote = table-answered rings room .writes range in
+    let (fits, long) = wrote .length-written bytes .0 e in
+    let written : take bytes (tableOf rings room .room) ≡ deskFile k = ap (λ (n : ℕ). take n (tableOf rings room .room)) long ∙ wrote .front fits in
     let o = opened k (range .some) (range .few) written cells row records few-records one-more in
     (started k (range .some) (range .few) written cells row records few-records one-more, (o, demands-met o, counts-rings k (range .some) (range .few) written o))

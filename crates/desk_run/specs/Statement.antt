@@ -7,15 +7,16 @@ use Prim.Native.Nat.{ℕ, _+_, _≤_}
 use lib.Dec.{eqb}
 use lib.ListN.{length, take}
 use Rattle.laws.specs.Places.{At}
-use Rattle.refusal.specs.declared.Written.the-variants.{Length}
+use Rattle.refusal.specs.Number.{accepted}
+use Rattle.refusal.specs.Written.{writtenSaid}
 use Rattle.machine.specs.Calls.{Call}
 use Rattle.machine.specs.Book.{Operation}
-use Rattle.machine.specs.History.{Begins, Ends}
+use Rattle.machine.specs.History.{Begins, Ends, replayed}
 use Rattle.records.specs.declared.record.Task.{Task}
 use Rattle.stepping.specs.declared.answer.StartAnswer.the-variants.{Started}
 use Rattle.stepping.specs.Call.{startOf}
 use Rattle.stepping.specs.Runs.{Store}
-use Rattle.stepping.specs.Opening.{Opening, shown, startStore}
+use Rattle.stepping.specs.Opening.{Opening, objectIn, shown, startStore}
 use Rattle.stepping.specs.Statement.{Demands}
 use Rattle.ring_desk.specs.Rings.{ringCount}
 use Rattle.ring_desk.specs.Table.{tableOf}
@@ -35,9 +36,12 @@ pub record AnswersCount (rings : ℕ) (order : List Operation) (x : Operation) (
   pub built-after : Counts rings response (x .operation) after
   pub moved-is : moved ≡ not (eqb after response)
 
--- A run counts rings: the book's state is the number of rings built along the order, and every operation that ended answers the count.
+-- A run counts rings: the book's state is the number of rings built along the order, replay gives every operation of the order the
+-- count, and every operation that ended answers it.
 pub record CountsRings (rings : ℕ) {file : List ℕ} {n : ℕ} {s : Store} (o : Opening file n 0 s) (d : Demands o) : Type 0 where
   pub state : (xs : List Call) → Counted rings 0 (d .book xs .order) (d .book xs .state)
+  pub entered : (xs : List Call) (i : ℕ) (x : Operation) → At (d .book xs .order) i x
+      → let v = replayed (objectIn o) 0 (d .book xs .order) i in AnswersCount rings (d .book xs .order) x (v .response) (v .moved)
   pub answers : (xs : List Call) (x : Operation) (p r : ℕ) (moved : Bool) → Begins (shown o .history xs) x
       → Ends (shown o .history xs) x p (record { response = r; moved = moved }) → AnswersCount rings (d .book xs .order) x r moved
 
@@ -45,7 +49,7 @@ pub record CountsRings (rings : ℕ) {file : List ℕ} {n : ℕ} {s : Store} (o 
 -- opens a run with no ring built, the demands hold of it, and however its book is kept it counts rings.
 abbrev pub DriveRuns : (rings room : List ℕ) (bytes : ℕ) → Type 0
 DriveRuns rings room bytes =
-    tableOf rings room .answer ≡ Length bytes
+    writtenSaid (tableOf rings room .answer) ≡ accepted (bytes ∷ [])
     → let file = take bytes (tableOf rings room .room) in
     (cells : List ℕ) (row : List Task) → 1 ≤ length row → length row ≤ 8 → length cells ≡ length row + 1
     → (startOf file cells row .answer ≡ Started)

@@ -86,7 +86,7 @@ desk-owner-read rings chainage = owner-read (ownerOf rings chainage) (small (own
   where
     small : (a : OwnerAnswer) → ownerOf rings chainage ≡ a → valueAt (ownerSaid a) 0 < 65536
     small (owner.Ring number) e =
-        let (range, (place, same, found)) = owner-answered rings chainage .owner number .0 e in
+        let (range, (place, same, found)) = owner-answered rings chainage .owner number .0 (ap ownerSaid e) in
         omega (arith, same, range .few, found .listed)
     small (owner.Refused c) e = omega arith
 

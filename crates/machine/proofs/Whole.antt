@@ -2,3 +2,4 @@
 -- uses every other wing.
 pub mod WaitFree
 pub mod Demands
+pub mod Books

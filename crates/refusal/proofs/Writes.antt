@@ -1,17 +1,18 @@
 -- A call that writes into lent room keeps to its statement.
 use mathlib.Core.Path.{_≡_, refl, sym, ap, subst, _∙_}
-use mathlib.Core.List.{List, _++_}
+use mathlib.Core.List.{List, [], _∷_, _++_}
 use Prim.Native.Nat.{ℕ, _<_, _≤_}
 use native.Mathlib.Decide.{decLt}
 use native.Mathlib.Omega.{arith}
 use borrow.Author.Tests.{le-leb, lt-leb}
 use lib.ListN.{length, drop, length-append, length-drop}
 use lib.Seq.{take-at, drop-at}
-use Rattle.laws.proofs.Clash.{never}
 use Rattle.refusal.specs.declared.Refusal.the-variants.{Room}
-use Rattle.refusal.specs.declared.Written.the-variants.{Length, Refused}
+use Rattle.refusal.specs.declared.Written.the-variants.{Length}
+use Rattle.refusal.specs.Number.{accepted}
 use Rattle.refusal.specs.Written.{notWritten, writtenInto}
 use Rattle.refusal.specs.Statement.{Writes}
+use Rattle.refusal.proofs.Numbers.{numbers-apart, values-same}
 
 module _ (new room : List ℕ) where
   pub not-written : length room < length new → writtenInto new room ≡ notWritten Room room
@@ -23,23 +24,22 @@ module _ (new room : List ℕ) where
   too-short : length room < length new → Writes new room (notWritten Room room)
   too-short short =
       record {
-        no-room = λ cause. (λ e. (short, cc e), λ (_, e). ap Refused (sym e));
-        length-written = λ long. (λ e. never (cc e), λ (fits, _). absurd (omega arith));
-        unchanged = λ cause e. refl;
-        front = λ long e. never (cc e);
-        rest = λ long e. never (cc e);
+        no-room = (λ _. short, λ _. refl);
+        unchanged = λ _. refl;
+        length-written = λ long. (λ e. absurd (numbers-apart e (λ z. omega arith)), λ (fits, _). absurd (omega arith));
+        front = λ fits. absurd (omega arith);
+        rest = λ fits. absurd (omega arith);
         same-length = refl;
       }
 
   fitting : length new ≤ length room → Writes new room (record { answer = Length (length new); room = new ++ drop (length new) room })
   fitting fits =
-      let same : (long : ℕ) → Length (length new) ≡ Length long → length new ≡ long = λ long e. cc e in
       record {
-        no-room = λ cause. (λ e. never (cc e), λ (short, _). absurd (omega arith));
-        length-written = λ long. (λ e. (fits, sym (same long e)), λ (_, e). ap Length (sym e));
-        unchanged = λ cause e. never (cc e);
-        front = λ long e. take-at new (drop (length new) room) long (same long e);
-        rest = λ long e. drop-at new (drop (length new) room) long (same long e) ∙ ap (λ (k : ℕ). drop k room) (same long e);
+        no-room = (λ e. absurd (numbers-apart e (λ z. omega arith)), λ short. absurd (omega arith));
+        unchanged = λ short. absurd (omega arith);
+        length-written = λ long. (λ e. (fits, sym (values-same e)), λ (_, e). ap (λ (k : ℕ). accepted (k ∷ [])) (sym e));
+        front = λ _. take-at new (drop (length new) room) (length new) refl;
+        rest = λ _. drop-at new (drop (length new) room) (length new) refl;
         same-length = length-append new (drop (length new) room) ∙ omega (arith, length-drop (length new) room);
       }
 

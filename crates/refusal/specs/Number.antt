@@ -32,6 +32,10 @@ pub record Said : Type 0 where
 abbrev pub accepted : List ℕ → Said
 accepted values = record { number = 0; values = values }
 
--- A refused call says the number of its cause, and no value.
+-- A refused call says a number, and no value.
+abbrev pub refusedBy : ℕ → Said
+refusedBy number = record { number = number; values = [] }
+
+-- The number is that of its cause.
 abbrev pub refused : Refusal → Said
-refused c = record { number = numberOf c; values = [] }
+refused c = refusedBy (numberOf c)

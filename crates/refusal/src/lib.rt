@@ -1,4 +1,5 @@
-// The causes for which a call is not served, and the number of each: docs/FORMATS.md, "When a call is not served".
+// The causes for which a call is not served, the number of each, and what a call that writes into lent room answers:
+// docs/FORMATS.md, "When a call is not served".
 ghost use mathlib.Core.Path.{_≡_};
 ghost use Rattle.refusal.specs.Number.{numberOf};
 
@@ -29,7 +30,7 @@ pub enum Refusal {
     Cell,
     // The bench line has no known form, or stands before an accepted start.
     Line,
-    // The list of rings has no ring, too many, or one whose length or kind is out of range.
+    // The list has no ring, too many rings or a word too many, or a ring whose length or kind is out of range.
     Rings,
     // No ring owns the chainage.
     Chainage,

@@ -2,17 +2,20 @@
 use mathlib.Core.Path.{_≡_, refl, sym, ap, _∙_}
 use mathlib.Core.Bool.{Bool, true, false}
 use mathlib.Core.Logic.{_↔_}
-use mathlib.Core.List.{List}
+use mathlib.Core.List.{List, [], _∷_}
 use Prim.Native.Nat.{ℕ, _+_, _<_}
 use native.Mathlib.Decide.{decLt}
 use native.Mathlib.Omega.{arith}
 use borrow.Author.Tests.{lt-ltb, le-ltb}
-use Rattle.laws.proofs.Clash.{never, clash}
+use Rattle.laws.proofs.Clash.{clash}
 use Rattle.laws.proofs.Lowest.{Found, lowest-found}
 use Rattle.refusal.specs.declared.Refusal.the-variants.{Rings, Chainage}
+use Rattle.refusal.specs.Number.{Said, accepted, refusedBy}
+use Rattle.refusal.proofs.Numbers.{numbers-apart, values-same}
+use Rattle.ring_desk.specs.declared.OwnerAnswer.{OwnerAnswer}
 use Rattle.ring_desk.specs.declared.OwnerAnswer.the-variants.{Ring, Refused}
 use Rattle.ring_desk.specs.Rings.{ringCount, ringsFit}
-use Rattle.ring_desk.specs.Owner.{owns, firstOwner, ownerOf}
+use Rattle.ring_desk.specs.Owner.{owns, firstOwner, ownerOf, ownerSaid}
 use Rattle.ring_desk.specs.Statement.{InRange, Owns, Owner, Unowned, OwnerAnswered}
 use Rattle.ring_desk.proofs.Ranges.{fits-range, range-fits}
 use Rattle.ring_desk.proofs.Owners.{owns-tested, tested-owns}
@@ -67,21 +70,24 @@ module _ (rings : List ℕ) (c : ℕ) where
       by (no n) (yes h) = absurd (a .lowest other h (b .owned))
       by (no n) (no m) = omega arith
 
-  range-answer : Known → (ownerOf rings c ≡ Refused Rings) ↔ (InRange rings → ⊥)
-  range-answer (outside n e) = (λ _. n, λ _. e)
-  range-answer (owned r place o e) = (λ f. never cc, λ n. absurd (n r))
-  range-answer (unowned r u e) = (λ f. never cc, λ n. absurd (n r))
+  said : {a : OwnerAnswer} → ownerOf rings c ≡ a → {s : Said} → ownerSaid (ownerOf rings c) ≡ s → ownerSaid a ≡ s
+  said e f = ap ownerSaid (sym e) ∙ f
 
-  chainage-answer : Known → (ownerOf rings c ≡ Refused Chainage) ↔ (InRange rings × Unowned rings c)
-  chainage-answer (outside n e) = (λ f. never cc, λ (r, u). absurd (n r))
-  chainage-answer (owned r place o e) = (λ f. never cc, λ (_, u). absurd (u place (o .listed) (o .owned)))
-  chainage-answer (unowned r u e) = (λ _. (r, u), λ _. e)
+  range-answer : Known → (ownerSaid (ownerOf rings c) ≡ refusedBy 14) ↔ (InRange rings → ⊥)
+  range-answer (outside n e) = (λ _. n, λ _. ap ownerSaid e)
+  range-answer (owned r place o e) = (λ f. absurd (numbers-apart (said e f) (λ z. omega arith)), λ n. absurd (n r))
+  range-answer (unowned r u e) = (λ f. absurd (numbers-apart (said e f) (λ z. omega arith)), λ n. absurd (n r))
 
-  ring-answer : (number : ℕ) → Known → (ownerOf rings c ≡ Ring number) ↔ (InRange rings × ((place : ℕ) × (number ≡ place + 1) × Owner rings place c))
-  ring-answer number (outside n e) = (λ f. never cc, λ (r, _). absurd (n r))
-  ring-answer number (unowned r u e) = (λ f. never cc, λ (_, (place, _, o)). absurd (u place (o .listed) (o .owned)))
+  chainage-answer : Known → (ownerSaid (ownerOf rings c) ≡ refusedBy 15) ↔ (InRange rings × Unowned rings c)
+  chainage-answer (outside n e) = (λ f. absurd (numbers-apart (said e f) (λ z. omega arith)), λ (r, u). absurd (n r))
+  chainage-answer (owned r place o e) = (λ f. absurd (numbers-apart (said e f) (λ z. omega arith)), λ (_, u). absurd (u place (o .listed) (o .owned)))
+  chainage-answer (unowned r u e) = (λ _. (r, u), λ _. ap ownerSaid e)
+
+  ring-answer : (number : ℕ) → Known → (ownerSaid (ownerOf rings c) ≡ accepted (number ∷ [])) ↔ (InRange rings × ((place : ℕ) × (number ≡ place + 1) × Owner rings place c))
+  ring-answer number (outside n e) = (λ f. absurd (numbers-apart (said e f) (λ z. omega arith)), λ (r, _). absurd (n r))
+  ring-answer number (unowned r u e) = (λ f. absurd (numbers-apart (said e f) (λ z. omega arith)), λ (_, (place, _, o)). absurd (u place (o .listed) (o .owned)))
   ring-answer number (owned r place o e) =
-      (λ f. (r, (place, cc, o)), λ (_, (other, at, b)). let same : place + 1 ≡ number = ap (λ (k : ℕ). k + 1) (same-owner place other o b) ∙ sym at in e ∙ ap Ring same)
+      (λ f. (r, (place, sym (values-same (said e f)), o)), λ (_, (other, at, b)). let same : place + 1 ≡ number = ap (λ (k : ℕ). k + 1) (same-owner place other o b) ∙ sym at in ap ownerSaid e ∙ ap (λ (k : ℕ). accepted (k ∷ [])) same)
 
   pub owner-answered : OwnerAnswered rings c
   owner-answered = record { out-of-range = range-answer known; no-owner = chainage-answer known; owner = λ number. ring-answer number known }

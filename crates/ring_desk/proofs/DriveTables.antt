@@ -12,7 +12,7 @@ use Rattle.table_writer.specs.Statement.{WithinLimits, ReadsBack}
 use Rattle.table_writer.proofs.ReadsBack.{reads-back}
 use Rattle.ring_desk.specs.Table.{deskOperations, nextBuilt, deskEntry, deskShape, deskFile}
 use Rattle.ring_desk.specs.Statement.{Counts, read, build, build-at-last, take-out, take-out-at-none, DriveTable, DriveTables}
-use Rattle.ring_desk.proofs.Tables.{file-long}
+use Rattle.ring_desk.proofs.WrittenTable.{file-long}
 
 -- ---- Counting
 
@@ -47,14 +47,13 @@ counts-next rings built operation after build-at-last = rw (le-ltb rings rings (
 counts-next rings built operation after take-out = omega (arith, one-away rings (after + 1) 0)
 counts-next rings built operation after take-out-at-none = refl
 
-next-below : (rings built operation : ℕ) → built < rings + 1 → operation < deskOperations → nextBuilt rings built operation < rings + 1
-next-below rings built zero h l = h
-next-below rings built (suc zero) h l = by (decLt built rings)
-  where
-    by : Dec (built < rings) → nextBuilt rings built 1 < rings + 1
-    by (yes below) = rw (lt-ltb _ _ below) (omega arith)
-    by (no n) = rw (le-ltb built rings (omega arith)) h
-next-below rings built (suc (suc operation)) h l = omega (arith, one-away rings built operation)
+-- No more than all rings are built.
+pub counts-few : {rings built operation after : ℕ} → Counts rings built operation after → built ≤ rings → after ≤ rings
+counts-few read h = h
+counts-few (build l) h = omega arith
+counts-few build-at-last h = h
+counts-few take-out h = omega arith
+counts-few take-out-at-none h = h
 
 -- ---- The file
 
@@ -67,7 +66,7 @@ module _ (rings : ℕ) (some : 1 ≤ rings) (few : rings ≤ 255) where
         some-operation = omega arith;
         few-operations = omega arith;
         start-below = omega arith;
-        next-below = next-below rings;
+        next-below = λ built operation h l. let few-built : built ≤ rings = omega arith in omega (arith, counts-few (next-counts rings built operation few-built l) few-built);
         response-byte = λ built operation h l. omega arith;
       }
 
@@ -98,7 +97,7 @@ module _ (rings : ℕ) (some : 1 ≤ rings) (few : rings ≤ 255) where
       record {
         long = file-long rings;
         bytes = back .bytes;
-        accepted = back .accepted;
+        accepts = back .accepted;
         counts = λ built operation h l. rw (next-is built operation h l) (next-counts rings built operation h l);
         counts-once = λ built operation one other a b. counts-next rings built operation one a ∙ sym (counts-next rings built operation other b);
         responds = λ built operation h l. ap (λ (e : Entry). e .response) (entry-is built operation h l);

@@ -1,7 +1,6 @@
 pub mod Ranges
-pub mod Tables
 pub mod Owners
 pub mod Answers
-pub mod Written
+pub mod WrittenTable
 pub mod DriveTables
 pub mod Cases

@@ -1,15 +1,27 @@
--- The test of cause 14 says whether the list is in range.
-use mathlib.Core.Path.{_≡_}
+-- The words of the list, and where rings begin and end; the test of cause 14 says whether the list is in range.
+use mathlib.Core.Path.{_≡_, refl}
 use mathlib.Core.Bool.{true, and-eq-true-iff}
 use mathlib.Core.Logic.{_⊎_, inl, inr}
 use mathlib.Core.List.{List}
 use Prim.Native.Nat.{ℕ, zero, suc, _%_, _<_, _≤_}
+use native.Mathlib.Numerals.{add-one}
 use native.Mathlib.Omega.{arith}
 use borrow.Author.Tests.{leb-true, eqb-true, le-leb, eq-eqb}
 use lib.ListN.{length}
 use Rattle.laws.proofs.Below.{all-at, all-of}
 use Rattle.ring_desk.specs.Rings.{longestRing, key, ringCount, lengthOf, kindOf, ringFits, ringsFit}
-use Rattle.ring_desk.specs.Statement.{InRange}
+use Rattle.ring_desk.specs.Statement.{Listed, InRange}
+
+pub listed : (rings : List ℕ) → Listed rings
+listed rings =
+    record {
+      count = refl;
+      length-word = λ place. refl;
+      kind-word = λ place. refl;
+      first = refl;
+      next = λ place. rw add-one;
+      end = λ place. refl;
+    }
 
 kind-cases : (kind : ℕ) → kind ≤ key → (kind ≡ 0) ⊎ (kind ≡ key)
 kind-cases zero h = inl (omega arith)

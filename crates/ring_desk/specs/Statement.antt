@@ -3,22 +3,31 @@
 use mathlib.Core.Path.{_≡_}
 use mathlib.Core.Bool.{true, false}
 use mathlib.Core.Logic.{_↔_, _⊎_}
-use mathlib.Core.List.{List}
-use Prim.Native.Nat.{ℕ, _+_, _-_, _*_, _<_, _≤_}
-use lib.ListN.{length}
-use Rattle.refusal.specs.declared.Refusal.the-variants.{Rings, Chainage}
-use Rattle.refusal.specs.declared.Written.the-variants as written
+use mathlib.Core.List.{List, [], _∷_}
+use Prim.Native.Nat.{ℕ, _+_, _-_, _*_, _/_, _<_, _≤_}
+use lib.ListN.{length, getD}
+use Rattle.refusal.specs.Number.{accepted, refusedBy}
+use Rattle.refusal.specs.Written.{writtenSaid}
 use Rattle.refusal.specs.Statement.{Writes}
-use Rattle.table.specs.declared.Checked.the-variants as table
+use Rattle.table.specs.declared.Shape.{Shape}
+use Rattle.table.specs.declared.Checked.the-variants.{Accepted}
 use Rattle.table.specs.File.{Bytes}
 use Rattle.table.specs.Check.{checkOf}
 use Rattle.table.specs.Entries.{entryOf, changing}
-use Rattle.ring_desk.specs.declared.OwnerAnswer.the-variants.{Ring, Refused}
 use Rattle.ring_desk.specs.Rings.{ringCount, lengthOf, kindOf, startOf, endOf}
-use Rattle.ring_desk.specs.Owner.{ownerOf}
-use Rattle.ring_desk.specs.Table.{deskShape, deskFile, tableOf}
+use Rattle.ring_desk.specs.Owner.{ownerOf, ownerSaid}
+use Rattle.ring_desk.specs.Table.{deskFile, tableOf}
 
 -- ---- The list of rings
+
+-- Two words a ring, length and then kind; the first ring begins at chainage 0, and each ring begins at the end of the one before.
+pub record Listed (rings : List ℕ) : Type 0 where
+  pub count : ringCount rings ≡ length rings / 2
+  pub length-word : (place : ℕ) → lengthOf rings place ≡ getD rings (2 * place) 0
+  pub kind-word : (place : ℕ) → kindOf rings place ≡ getD rings (2 * place + 1) 0
+  pub first : startOf rings 0 ≡ 0
+  pub next : (place : ℕ) → startOf rings (place + 1) ≡ endOf rings place
+  pub end : (place : ℕ) → endOf rings place ≡ startOf rings place + lengthOf rings place
 
 -- Two words a ring, 1 to 255 rings, every length from 1 to 20,000, every kind 0 for ordinary or 1 for key.
 pub record InRange (rings : List ℕ) : Type 0 where
@@ -46,14 +55,14 @@ pub record Owner (rings : List ℕ) (place chainage : ℕ) : Type 0 where
 abbrev pub Unowned : List ℕ → ℕ → Type 0
 Unowned rings chainage = (place : ℕ) → place < ringCount rings → Owns rings place chainage → ⊥
 
--- What the call answers, each answer in both directions.
+-- What the call answers says, each in both directions.
 pub record OwnerAnswered (rings : List ℕ) (chainage : ℕ) : Type 0 where
   -- 14 exactly if the list is out of range.
-  pub out-of-range : (ownerOf rings chainage ≡ Refused Rings) ↔ (InRange rings → ⊥)
+  pub out-of-range : (ownerSaid (ownerOf rings chainage) ≡ refusedBy 14) ↔ (InRange rings → ⊥)
   -- 15 exactly if the list is in range and no ring owns the chainage.
-  pub no-owner : (ownerOf rings chainage ≡ Refused Chainage) ↔ (InRange rings × Unowned rings chainage)
-  -- A number exactly if the list is in range and the ring of that number is the owner.
-  pub owner : (number : ℕ) → (ownerOf rings chainage ≡ Ring number) ↔ (InRange rings × ((place : ℕ) × (number ≡ place + 1) × Owner rings place chainage))
+  pub no-owner : (ownerSaid (ownerOf rings chainage) ≡ refusedBy 15) ↔ (InRange rings × Unowned rings chainage)
+  -- A number exactly if the list is in range and the ring of that number, counted from 1, is the owner.
+  pub owner : (number : ℕ) → (ownerSaid (ownerOf rings chainage) ≡ accepted (number ∷ [])) ↔ (InRange rings × ((place : ℕ) × (number ≡ place + 1) × Owner rings place chainage))
 
 -- No ring owns a chainage exactly if it lies past the end of the last ring, or at it and that ring is ordinary.
 abbrev pub PastTheEnd : List ℕ → ℕ → Type 0
@@ -84,19 +93,23 @@ pub data Counts (rings : ℕ) : (built operation after : ℕ) → Type 0 where
   take-out : {built : ℕ} → Counts rings (built + 1) 2 built
   take-out-at-none : Counts rings 0 2 0
 
--- The file of a drive of so many rings: its length; check accepts it, with a state more than rings, three operations, start state 0 and
--- offset 0; its entries count rings, in one way, and respond with the number built before; 0 is reading, 1 and 2 are changing.
+-- A state more than rings, three operations, start state 0 and offset 0.
+abbrev pub driveShape : ℕ → Shape
+driveShape rings = record { offset = 0; states = rings + 1; operations = 3; start = 0 }
+
+-- The file of a drive of so many rings: its length; check accepts it; its entries count rings, in one way, and respond with the number
+-- built before; 0 is reading, 1 and 2 are changing.
 pub record DriveTable (rings : ℕ) : Type 0 where
   pub long : length (deskFile rings) ≡ 6 * rings + 22
   pub bytes : Bytes (deskFile rings)
-  pub accepted : checkOf (deskFile rings) ≡ table.Accepted (record { offset = 0; states = rings + 1; operations = 3; start = 0 })
+  pub accepts : checkOf (deskFile rings) ≡ Accepted (driveShape rings)
   pub counts : (built operation : ℕ) → built ≤ rings → operation < 3
-      → Counts rings built operation (entryOf (deskFile rings) (deskShape rings) built operation .next)
+      → Counts rings built operation (entryOf (deskFile rings) (driveShape rings) built operation .next)
   pub counts-once : (built operation one other : ℕ) → Counts rings built operation one → Counts rings built operation other → one ≡ other
-  pub responds : (built operation : ℕ) → built ≤ rings → operation < 3 → entryOf (deskFile rings) (deskShape rings) built operation .response ≡ built
-  pub reads : changing (deskFile rings) (deskShape rings) 0 ≡ false
-  pub builds : changing (deskFile rings) (deskShape rings) 1 ≡ true
-  pub takes-out : changing (deskFile rings) (deskShape rings) 2 ≡ true
+  pub responds : (built operation : ℕ) → built ≤ rings → operation < 3 → entryOf (deskFile rings) (driveShape rings) built operation .response ≡ built
+  pub reads : changing (deskFile rings) (driveShape rings) 0 ≡ false
+  pub builds : changing (deskFile rings) (driveShape rings) 1 ≡ true
+  pub takes-out : changing (deskFile rings) (driveShape rings) 2 ≡ true
 
 abbrev pub DriveTables : Type 0
 DriveTables = (rings : ℕ) → 1 ≤ rings → rings ≤ 255 → DriveTable rings
@@ -104,7 +117,7 @@ DriveTables = (rings : ℕ) → 1 ≤ rings → rings ≤ 255 → DriveTable rin
 -- What the call that writes it answers and leaves.
 pub record TableAnswered (rings room : List ℕ) : Type 0 where
   -- 14 exactly if the list is out of range, and then the room is as it was.
-  pub out-of-range : (tableOf rings room .answer ≡ written.Refused Rings) ↔ (InRange rings → ⊥)
+  pub out-of-range : (writtenSaid (tableOf rings room .answer) ≡ refusedBy 14) ↔ (InRange rings → ⊥)
   pub unchanged : (InRange rings → ⊥) → tableOf rings room .room ≡ room
   -- A list in range: the drive's file is written into the room, or refused with 16.
   pub writes : InRange rings → Writes (deskFile (ringCount rings)) room (tableOf rings room)

@@ -77,7 +77,7 @@ fn each_ring_fits(rings: &[u32]) -> bool
 }
 
 // Whether the list has two words a ring, no ring too many or too few, and every ring in range: cause 14 does not hold.
-pub fn rings_fit(rings: &[u32]) -> bool
+fn rings_fit(rings: &[u32]) -> bool
     ensures { λ r. ⌜ r ≡ ringsFit (now (rings .entry)) ⌝ }
 {
     if rings.len() % 2 != 0 {

@@ -11,7 +11,7 @@ ghost use Rattle.table.specs.Check.{checkOf};
 
 const TRAILER_BYTES: usize = 16;
 
-const MARK_BYTES: usize = 6;
+pub const MARK_BYTES: usize = 6;
 
 // The mark in which a file ends: checked here, and written by every writer.
 pub const MARK: [u8; 6] = *b"DRIVE1";

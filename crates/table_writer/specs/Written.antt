@@ -14,7 +14,7 @@ bytes16 n = n % 256 ∷ n / 256 ∷ []
 abbrev pub bytes32 : ℕ → List ℕ
 bytes32 n = bytes16 (n % 65536) ++ bytes16 (n / 65536)
 
--- An entry: next state, response.
+-- An entry: next state, response, each in one byte, which has the low bits of a number that is too large.
 abbrev pub entryBytesOf : Entry → List ℕ
 entryBytesOf entry = entry .next % 256 ∷ entry .response % 256 ∷ []
 

@@ -1,6 +1,6 @@
 // How an object file is written into lent room: its entries one after the other, then the trailer with the mark.
 //
-// Every function is total: what would stand past the room's end is not written.
+// Every public function is total: what would stand past the room's end is not written.
 use table::Entry;
 use table::Shape;
 ghost use mathlib.Core.Path.{_≡_};
@@ -10,8 +10,6 @@ ghost use lib.ListN.{set};
 ghost use lib.Seq.{sets};
 ghost use Rattle.table.specs.File.{mark};
 ghost use Rattle.table_writer.specs.Written.{bytes16, bytes32, entryBytesOf, trailerOf};
-
-const MARK_BYTES: usize = 6;
 
 // Writes a byte.
 fn put(room: &mut [u8], at: usize, byte: u8)
@@ -54,13 +52,13 @@ fn put_mark(room: &mut [u8], at: usize)
     ensures { λ _. ⌜ now (room .exit) ≡ sets (now (room .entry)) at mark ⌝ }
 {
     let mut i = 0;
-    while i < MARK_BYTES {
+    while i < table::MARK_BYTES {
         put(room, at + i, table::MARK[i]);
         i += 1;
     }
 }
 
-// Writes an entry at a place of the room.
+// Writes an entry at a place of the room: the low byte of each of its numbers.
 pub fn write_entry(room: &mut [u8], at: u32, entry: Entry)
     ensures { λ _. ⌜ now (room .exit) ≡ sets (now (room .entry)) at (entryBytesOf entry) ⌝ }
 {

@@ -7,7 +7,7 @@
 use std::process::ExitCode;
 
 use drive_object::{begin, ceiling, check, owner, start, step, write_ring_table};
-use drive_object::{Progress, Refusal, Shape, Task, LONGEST_FILE};
+use drive_object::{Progress, Refusal, Task, KEY, LONGEST_RING_TABLE};
 
 const TASKS: usize = 3;
 
@@ -70,15 +70,17 @@ fn expect(fact: bool, what: &str) -> Result<(), String> {
 }
 
 /// The ring desk writes the flag too: it is the table of a drive of one ring, which build sets and take out clears.
-fn check_drive_of_one_ring() -> Result<Shape, String> {
+fn expect_drive_of_one_ring(file: &[u8]) -> Result<(), String> {
     const LENGTH: u32 = 1_500;
-    const KEY: u32 = 1;
     let rings = [LENGTH, KEY];
-    let mut room = [0; LONGEST_FILE];
+    let mut room = [0; LONGEST_RING_TABLE];
     let written = write_ring_table(&rings, &mut room).map_err(refused)?;
+    expect(
+        &room[..written as usize] == file,
+        "the table is not that of one ring",
+    )?;
     let owner = owner(&rings, u64::from(LENGTH)).map_err(refused)?;
-    expect(owner == 1, "a key ring does not own its end")?;
-    check(&room[..written as usize]).map_err(refused)
+    expect(owner == 1, "a key ring does not own its end")
 }
 
 /// The state that an operation of the flag leads to.
@@ -93,10 +95,7 @@ fn next_state(operation: usize, state: u16) -> u16 {
 impl Kernel {
     fn start(file: Vec<u8>) -> Result<Kernel, String> {
         let shape = check(&file).map_err(refused)?;
-        expect(
-            shape == check_drive_of_one_ring()?,
-            "the table has another shape than that of one ring",
-        )?;
+        expect_drive_of_one_ring(&file)?;
         let ceiling = ceiling(TASKS).map_err(refused)?;
         let mut cells = [0; TASKS + 1];
         let mut row = [Task::default(); TASKS];

@@ -60,7 +60,7 @@ refusals! {
     10 Idle "the task has no operation pending"
     11 Record "the task's record is out of form"
     12 Cell "the touched cell is out of form"
-    14 Rings "the rings are not 1 to 255, or a ring's length is not 1 to 20,000 or its kind not ordinary or key"
+    14 Rings "the list is not of 1 to 255 whole rings, or a ring's length is not 1 to 20,000 or its kind not ordinary or key"
     15 Chainage "no ring owns the chainage"
     16 Room "the room is shorter than what is to be written"
 }

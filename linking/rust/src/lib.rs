@@ -30,6 +30,18 @@ pub const LONGEST_FILE: usize = 20_496;
 /// The most rings of a list.
 pub const MOST_RINGS: usize = 255;
 
+/// The words of a ring in a list: its length, and its kind, [`ORDINARY`] or [`KEY`].
+pub const RING_WORDS: usize = 2;
+
+/// The kind of an ordinary ring, which owns its start and not its end.
+pub const ORDINARY: u32 = 0;
+
+/// The kind of a key ring, which owns both.
+pub const KEY: u32 = 1;
+
+/// The longest table file of a drive in bytes, that of 255 rings.
+pub const LONGEST_RING_TABLE: usize = 1_552;
+
 /// The private record of a task, whose number is its place in the row. [`start`] fills it; only the calls write it. The
 /// forms stand in `docs/RECORDS.md`.
 #[repr(C)]

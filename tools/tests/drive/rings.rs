@@ -167,7 +167,7 @@ fn refused_with(text: &[u8], reason: &str) {
 #[test]
 fn a_wrong_line_is_named_by_its_number() {
     let form = "a line is 'LENGTH ordinary', 'LENGTH key', or '# comment'";
-    let no_length = "is no length: lengths are whole millimetres, and fit in 32 bits";
+    let no_length = "is no length: lengths are whole millimetres in digits alone, and fit in 32 bits";
     for (line, reason) in [
         ("1500", form),
         ("1500 key 1", form),
@@ -241,7 +241,7 @@ fn a_chainage_is_a_whole_number_of_64_bits() {
     ] {
         for file in [EXAMPLE, "-", "no/file"] {
             let said = drive(&["owner", file, word], b"").failure();
-            let range = "chainages are whole millimetres from 0 to 18,446,744,073,709,551,615";
+            let range = "chainages are whole millimetres in digits alone, from 0 to 18446744073709551615";
             assert_eq!(said, format!("drive: '{word}' is no chainage: {range}\n"));
         }
     }
@@ -255,7 +255,7 @@ fn a_chainage_is_a_whole_number_of_64_bits() {
 #[test]
 fn the_list_can_be_the_standard_input() {
     let text = std::fs::read(EXAMPLE).expect("the example");
-    let said = drive(&["owner", EXAMPLE, "4200"], b"").text();
+    let said = "ring 3 owns chainage 4,200: key, from 3,000 to 4,200 millimetres\n";
     assert_eq!(drive(&["owner", "-", "4200"], &text).text(), said);
 }
 

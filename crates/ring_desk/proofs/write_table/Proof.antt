@@ -11,7 +11,7 @@ use Rattle.refusal.specs.Written.{Writing}
 use Rattle.ring_desk.specs.Rings.{mostRings, ringCount, ringsFit}
 use Rattle.ring_desk.specs.Table.{deskFile}
 use Rattle.ring_desk.proofs.Ranges.{fits-range}
-use Rattle.ring_desk.proofs.Tables.{file-long, written-over, table-no-range, table-no-room, table-written}
+use Rattle.ring_desk.proofs.WrittenTable.{file-long, written-over, table-no-range, table-no-room, table-written}
 use Rattle.ring_desk.proofs.write_table.Statement.{statement}
 use Rattle.ring_desk.proofs.write_table.Tie as tie
 
