@@ -55,7 +55,7 @@ pub record Owner (rings : List ℕ) (place chainage : ℕ) : Type 0 where
 abbrev pub Unowned : List ℕ → ℕ → Type 0
 Unowned rings chainage = (place : ℕ) → place < ringCount rings → Owns rings place chainage → ⊥
 
--- What the call answers says, each in both directions.
+-- What the call's answer says, each in both directions.
 pub record OwnerAnswered (rings : List ℕ) (chainage : ℕ) : Type 0 where
   -- 14 exactly if the list is out of range.
   pub out-of-range : (ownerSaid (ownerOf rings chainage) ≡ refusedBy 14) ↔ (InRange rings → ⊥)
@@ -111,6 +111,7 @@ pub record DriveTable (rings : ℕ) : Type 0 where
   pub builds : changing (deskFile rings) (driveShape rings) 1 ≡ true
   pub takes-out : changing (deskFile rings) (driveShape rings) 2 ≡ true
 
+-- For every number of rings that a list may have.
 abbrev pub DriveTables : Type 0
 DriveTables = (rings : ℕ) → 1 ≤ rings → rings ≤ 255 → DriveTable rings
 
