@@ -4,7 +4,7 @@ use crate::refusal::Refusal;
 use crate::table_file::TableFile;
 
 pub const MOST_RINGS: usize = 255;
-pub const MOST_LENGTH: u32 = 20_000;
+pub const LONGEST_RING: u32 = 20_000;
 /// A ring is two words of a list: its length in millimetres and its kind.
 pub const RING_WORDS: usize = 2;
 pub const ORDINARY: u32 = 0;
@@ -70,7 +70,7 @@ fn test_rings(rings: &[u32]) -> Result<(), Refusal> {
 
 fn ring_fits(ring: &[u32]) -> bool {
     let (length, kind) = (ring[0], ring[1]);
-    (1..=MOST_LENGTH).contains(&length) && [ORDINARY, KEY].contains(&kind)
+    (1..=LONGEST_RING).contains(&length) && [ORDINARY, KEY].contains(&kind)
 }
 
 /// Ring 1 begins at 0, and each ring at the end of the one before.
@@ -170,7 +170,7 @@ mod tests {
 
     #[test]
     fn the_longest_list_ends_at_5100000() {
-        let longest = [MOST_LENGTH, ORDINARY].repeat(MOST_RINGS);
+        let longest = [LONGEST_RING, ORDINARY].repeat(MOST_RINGS);
         assert_eq!(owner(&longest, 5_079_999), Ok(254));
         assert_eq!(owner(&longest, 5_080_000), Ok(255));
         assert_eq!(owner(&longest, 5_099_999), Ok(255));

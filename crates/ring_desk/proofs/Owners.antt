@@ -44,7 +44,7 @@ module _ (rings : List ℕ) where
 
   module _ (range : InRange rings) where
     -- A ring owns what lies from its start to before its end.
-    pub owns-inside : (place c : ℕ) → place < ringCount rings → startOf rings place ≤ c → c < endOf rings place → Owns rings place c
+    owns-inside : (place c : ℕ) → place < ringCount rings → startOf rings place ≤ c → c < endOf rings place → Owns rings place c
     owns-inside place c listed h l = by (range .kinds place listed)
       where
         by : (kindOf rings place ≡ 0) ⊎ (kindOf rings place ≡ key) → Owns rings place c

@@ -44,10 +44,12 @@ deskCases =
     -- The end of an ordinary last ring has no owner, that of a key ring has.
     ∷ case (owner three 2999) 3
     ∷ case (refusal three 3000) 15
+    ∷ case (owner three 3000) 0
     ∷ case (owner lone 5) 1
     ∷ case (refusal lone 6) 15
     -- No ring, one word too many.
     ∷ case (refusal [] 0) 14
+    ∷ case (owner [] 0) 0
     ∷ case (refusal (5 ∷ 1 ∷ 5 ∷ []) 0) 14
     -- Lengths 0, 1, 20,000 and 20,001; kind 2; out of range in a ring after the owner.
     ∷ case (refusal (0 ∷ 0 ∷ []) 0) 14
@@ -61,6 +63,7 @@ deskCases =
     ∷ case (refusal (5 ∷ 2147483648 ∷ []) 0) 14
     -- The table of one ring has 28 bytes.
     ∷ case (tableRefusal 27) 16
+    ∷ case (tableLength 27) 0
     ∷ case (tableRefusal 28) 0
     ∷ case (tableLength 28) 28
     ∷ case (tableLength 30) 28

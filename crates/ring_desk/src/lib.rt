@@ -6,7 +6,7 @@ use table::Entry;
 use table::Shape;
 ghost use mathlib.Core.Path.{_≡_};
 ghost use mathlib.Core.Bool.{true};
-ghost use Prim.Native.Nat.{_+_, _-_, _*_, _<_, _≤_};
+ghost use Prim.Native.Nat.{_+_, _*_, _<_, _≤_};
 ghost use lib.Seq.{sets};
 ghost use Rattle.laws.specs.Below.{allBelow};
 ghost use Rattle.table_writer.specs.Written.{stateBytes, entriesOf};

@@ -16,8 +16,8 @@ use Rattle.table.specs.Check.{checkOf}
 use Rattle.table.proofs.Fitting.{Fitting}
 use Rattle.table.proofs.Accepted.{fitting-accepted}
 use Rattle.table_writer.specs.Written.{entryBytesOf, trailerOf, stateBytes, entriesOf, plainShape, fileOf}
-use Rattle.table_writer.specs.Statement.{WithinLimits, ReadsBack}
-use Rattle.table_writer.proofs.Trailers.{Fields, file-length, shape-read, mark-read, two-bytes, trailer-bytes}
+use Rattle.table_writer.specs.Statement.{Fields, WithinLimits, ReadsBack}
+use Rattle.table_writer.proofs.Trailers.{file-length, trailer-reads, two-bytes, trailer-bytes}
 
 -- ---- The entries
 
@@ -82,11 +82,12 @@ module _ (s m start : ℕ) (entry : ℕ → ℕ → Entry) where
     unfolding fileOf
     fitting =
         let few : s * m ≤ 256 * m = mul-le-mul-right m (limits .few-states) in
+        let reads = trailer-reads (entriesOf s m entry) (plainShape s m start) fields in
         record {
-          shape-is = sym (shape-read (entriesOf s m entry) (plainShape s m start) fields);
+          shape-is = sym (reads .says);
           not-short = omega (arith, written-length);
           not-long = omega (arith, written-length, few, limits .few-operations);
-          marked = mark-read (entriesOf s m entry) (plainShape s m start);
+          marked = reads .marked;
           some-state = limits .some-state;
           few-states = limits .few-states;
           some-operation = limits .some-operation;

@@ -12,13 +12,7 @@ use Rattle.laws.proofs.Lists.{none-all, cons-all, append-all}
 use Rattle.table.specs.declared.Shape.{Shape}
 use Rattle.table.specs.File.{byteAt, Bytes, number16, number32, mark, markBytes, trailerBytes, endsInMark, shapeOf}
 use Rattle.table_writer.specs.Written.{bytes16, bytes32, trailerOf}
-
--- The numbers of a shape fit their fields.
-pub record Fields (shape : Shape) : Type 0 where
-  pub offset : shape .offset < 4294967296
-  pub states : shape .states < 65536
-  pub operations : shape .operations < 65536
-  pub start : shape .start < 65536
+use Rattle.table_writer.specs.Statement.{Fields, TrailerReads}
 
 -- ---- What is read
 
@@ -33,7 +27,7 @@ module _ (front : List ℕ) (shape : Shape) where
   number-at place i e = rw (byte-at place i e, byte-at (place + 1) (i + 1) (omega arith))
 
   -- The trailer says the shape.
-  pub shape-read : Fields shape → shapeOf (front ++ trailerOf shape) ≡ shape
+  shape-read : Fields shape → shapeOf (front ++ trailerOf shape) ≡ shape
   unfolding shapeOf
   shape-read fit =
       let at : ℕ = length (front ++ trailerOf shape) - trailerBytes in
@@ -46,13 +40,16 @@ module _ (front : List ℕ) (shape : Shape) where
       rw (offset, states, operations, start)
 
   -- The file ends in the mark.
-  pub mark-read : endsInMark (front ++ trailerOf shape) ≡ true
+  mark-read : endsInMark (front ++ trailerOf shape) ≡ true
   unfolding endsInMark
   mark-read =
       let fields : List ℕ = bytes32 (shape .offset) ++ bytes16 (shape .states) ++ bytes16 (shape .operations) ++ bytes16 (shape .start) in
       let file : List ℕ = front ++ trailerOf shape in
       simp (le-leb markBytes (length file) (omega (arith, file-length)))
       (all-of markBytes _ (λ i h. eq-eqb _ _ (byte-at (length file - markBytes + i) (10 + i) (omega (arith, file-length)) ∙ getD-append-add fields mark i 0)))
+
+pub trailer-reads : (front : List ℕ) (shape : Shape) → Fields shape → TrailerReads front shape
+trailer-reads front shape fit = record { says = shape-read front shape fit; marked = mark-read front shape }
 
 -- ---- Its bytes
 
