@@ -228,16 +228,57 @@ mod tests {
         );
     }
 
-    #[test]
-    fn a_holder_that_is_no_task_is_named_and_then_refused() {
-        let (table, mut cells, mut row) = started(1);
+    /// Three tasks and a head; task 0 has begun to set the flag, and its next step reads the head.
+    fn about_to_read(head: u64) -> (Table<'static>, Vec<u64>, Vec<Record>) {
+        let (table, mut cells, mut row) = started(3);
+        cells[HEAD_CELL] = head;
         begin(&table, &mut row, 0, 1).unwrap();
-        cells[0] = 0x0400_0000;
-        for _ in 0..4 {
+        for _ in 0..2 {
             assert_eq!(step(&table, &mut cells, &mut row, 0), Ok(Answer::Running));
         }
-        assert_eq!(row[0].known_phase(), Phase::LoadHelped(3));
-        assert_eq!(step(&table, &mut cells, &mut row, 0), Err(Refusal::Record));
+        assert_eq!(row[0].known_phase(), Phase::LoadHead);
+        (table, cells, row)
+    }
+
+    #[test]
+    fn a_head_whose_holder_is_no_task_is_refused_where_it_is_read() {
+        let (table, mut cells, mut row) = about_to_read(0x0700_0000);
+        let before = (cells.clone(), row.clone());
+        assert_eq!(step(&table, &mut cells, &mut row, 0), Err(Refusal::Cell));
+        assert_eq!((cells, row), before);
+    }
+
+    #[test]
+    fn a_reading_operation_is_refused_if_the_holder_is_no_task() {
+        let (table, mut cells, mut row) = about_to_read(0x0700_0000);
+        begin(&table, &mut row, 1, 0).unwrap();
+        let before = (cells.clone(), row.clone());
+        assert_eq!(step(&table, &mut cells, &mut row, 1), Err(Refusal::Cell));
+        assert_eq!((cells, row), before);
+    }
+
+    #[test]
+    fn a_head_whose_holder_is_the_last_task_is_served() {
+        let (table, mut cells, mut row) = about_to_read(0x0300_0000);
+        for phase in [Phase::LinkHead, Phase::LoadHelped(2), Phase::LinkHelped(2)] {
+            assert_eq!(step(&table, &mut cells, &mut row, 0), Ok(Answer::Running));
+            assert_eq!(row[0].known_phase(), phase);
+        }
+        assert_eq!(cells[HEAD_CELL], 0x0300_0001);
+    }
+
+    /// 11 is tested before 12, so it comes whatever the head is.
+    #[test]
+    fn a_record_whose_saved_holder_is_no_task_is_refused() {
+        for head in [0, 0x0300_0000, 0x0700_0000] {
+            let (table, mut cells, mut row) = about_to_read(0);
+            cells[HEAD_CELL] = head;
+            row[0] = row[0].with_phase(Phase::LinkHead).with_head(0x0700_0000);
+            let before = (cells.clone(), row.clone());
+            assert_eq!(begin(&table, &mut row, 0, 1), Err(Refusal::Record));
+            assert_eq!(step(&table, &mut cells, &mut row, 0), Err(Refusal::Record));
+            assert_eq!((cells, row), before);
+        }
     }
 
     #[test]

@@ -153,11 +153,16 @@ fn marks_in_form(word: u64, tasks: usize) -> bool {
     MARKS.get(word) >> tasks == 0
 }
 
+/// The holder is none or one of the tasks.
+fn holder_in_form(word: u64, tasks: usize) -> bool {
+    HEAD_HOLDER.get(word) <= tasks.min(MOST_TASKS) as u64
+}
+
 pub fn head_in_form(word: u64, states: usize, tasks: usize) -> bool {
     word & !HEAD_BITS == 0
         && marks_in_form(word, tasks)
         && HEAD_STATE.get(word) < states as u64
-        && HEAD_HOLDER.get(word) <= MOST_TASKS as u64
+        && holder_in_form(word, tasks)
         && (HEAD_HOLDER.get(word) != 0 || (HEAD_RESPONSE.get(word) == 0 && HEAD_MOVED.get(word) == 0))
 }
 
@@ -215,10 +220,10 @@ mod tests {
     #[test]
     fn the_moved_bit_of_a_head_needs_a_holder() {
         for in_form in [0x1101_0000, 0x1100_0000, 0x18ff_0000, 0x1100_0101] {
-            assert!(head_in_form(in_form, 2, 1), "{in_form:#x}");
+            assert!(head_in_form(in_form, 2, 8), "{in_form:#x}");
         }
         for out_of_form in [0x1000_0000, 0x1001_0000, 0x1000_0101, 0x2100_0000, 0x1900_0000] {
-            assert!(!head_in_form(out_of_form, 2, 1), "{out_of_form:#x}");
+            assert!(!head_in_form(out_of_form, 2, 8), "{out_of_form:#x}");
         }
         assert_eq!(Head::decode(0x1101_0000), held(0, 1, true));
         assert_eq!(held(7, 255, true).encode(), 0x18ff_0000);
@@ -267,8 +272,32 @@ mod tests {
     fn head_fields_keep_to_their_ranges() {
         assert!(head_in_form(0x1ff, 2, 8));
         assert!(!head_in_form(0x200, 2, 8));
-        assert!(head_in_form(0x0800_0000, 2, 1));
+        assert!(head_in_form(0x0800_0000, 2, 8));
+        assert!(!head_in_form(0x0800_0000, 2, 7));
         assert!(!head_in_form(0x0900_0000, 2, 8));
+    }
+
+    #[test]
+    fn a_holder_is_one_of_the_tasks() {
+        for tasks in 1..=MOST_TASKS {
+            for holder in 0..16 {
+                let in_form = holder <= tasks as u64;
+                let named = format!("holder {holder} of {tasks} tasks");
+                assert_eq!(head_in_form(holder << 24, 1, tasks), in_form, "{named}");
+                let with_reply = 0x10ff_0000 | holder << 24;
+                assert_eq!(
+                    head_in_form(with_reply, 1, tasks),
+                    in_form && holder > 0,
+                    "{named}"
+                );
+            }
+        }
+    }
+
+    #[test]
+    fn a_holder_is_at_most_8() {
+        assert!(head_in_form(0x0800_0000, 1, 9));
+        assert!(!head_in_form(0x0900_0000, 1, 9));
     }
 
     #[test]
@@ -304,7 +333,7 @@ mod tests {
 
     fn assert_head_survives(head: Head) {
         let word = head.encode();
-        assert!(head_in_form(word, 256, 1));
+        assert!(head_in_form(word, 256, MOST_TASKS));
         assert_eq!(Head::decode(word), head);
         assert_eq!(Head::decode(word | 0xff), head);
     }

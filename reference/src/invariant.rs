@@ -32,13 +32,8 @@ fn hold(clause: bool, name: &str) -> Result<(), String> {
     }
 }
 
-fn head_names_a_task(word: u64, tasks: usize) -> bool {
-    Head::decode(word).holder.is_none_or(|holder| holder.task < tasks)
-}
-
 fn cells_in_form(table: &Table, point: &Configuration) -> bool {
     head_in_form(point.head(), table.states, point.tasks)
-        && head_names_a_task(point.head(), point.tasks)
         && (0..point.tasks)
             .all(|task| announcement_in_form(point.announcement(task), table.operations, point.tasks))
 }
@@ -100,9 +95,7 @@ impl<'a> TaskView<'a> {
             Phase::ReadOnly => !changing(self.record.operation),
             _ => changing(self.record.operation),
         };
-        operation_fits
-            && self.record.is_in_form(table, self.point.tasks)
-            && head_names_a_task(self.record.head, self.point.tasks)
+        operation_fits && self.record.is_in_form(table, self.point.tasks)
     }
 
     fn is_before_announcing(&self) -> bool {

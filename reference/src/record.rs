@@ -170,6 +170,19 @@ mod tests {
     }
 
     #[test]
+    fn the_holder_of_a_saved_head_is_one_of_the_tasks() {
+        for phase in [Phase::Poll, Phase::LinkHead, Phase::HandOver(0)] {
+            let pending = Record::idle(0).bare_in_phase(phase);
+            for tasks in 1..=8 {
+                for holder in 0..16 {
+                    let record = pending.with_head(holder << 24);
+                    assert_eq!(in_form(record, tasks), holder <= tasks as u64, "{record:?}");
+                }
+            }
+        }
+    }
+
+    #[test]
     fn the_payload_is_an_operation_only_in_apply_phases() {
         let apply = Record::idle(0).bare_in_phase(Phase::Apply(0));
         assert!(in_form(apply.with_payload(2), 1));

@@ -16,7 +16,7 @@ use Rattle.cells.specs.declared.announcement.Announcement.{Announcement}
 use Rattle.cells.specs.declared.announcement.Announcement.the-variants.{Empty, Operation, Response}
 use Rattle.cells.proofs.Fields.{unpack-pack}
 use Rattle.cells.proofs.Codec.{Codec, content-read, marks-read, word-injective}
-use Rattle.cells.proofs.Forms.{Formed, formed, Shape, written-form, form-whole}
+use Rattle.cells.proofs.Forms.{Formed, formed, Shape, written-form, form-whole, form-range}
 
 pub announcement-codec : Codec announcementValues announcementFrom
 announcement-codec = record { content-of = content; marks-of = lowest }
@@ -105,7 +105,7 @@ module _ (x : Announcement) (m : ℕ) (f : Fit announcementWidths (announcementV
   unfolding announcementWord announcementInForm
   announcement-form o n = written-form (announcement-shape kindWidth gapWidth payloadWidth o) n x m f
 
--- A word in form is its announcement with its marks.
+-- A word in form is its announcement with its marks, and the announcement is in range.
 module _ (o n w : ℕ) (e : announcementInForm o n w ≡ true) where
   pub announcement-formed : Formed announcementWidths (announcementFieldsInForm o) n w
   unfolding announcementInForm
@@ -114,3 +114,7 @@ module _ (o n w : ℕ) (e : announcementInForm o n w ≡ true) where
   pub announcement-whole : announcementWord (announcementOf w) (marks w) ≡ w
   unfolding announcementWord announcementOf
   announcement-whole = form-whole (announcement-shape kindWidth gapWidth payloadWidth o) n w announcement-formed
+
+  pub announcement-range : announcementInRange o (announcementOf w) ≡ true
+  unfolding announcementOf
+  announcement-range = form-range (announcement-shape kindWidth gapWidth payloadWidth o) n w announcement-formed

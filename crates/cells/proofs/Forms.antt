@@ -18,7 +18,7 @@ pub record Formed (ws : List ℕ) (fields : List ℕ → Bool) (n w : ℕ) : Typ
   pub few : marks w < 2 ^ n
   pub passed : fields (unpack ws w) ≡ true
 
--- The test of a form, and what it says.
+-- The test of a form, and what it says; it says no less.
 module _ (ws : List ℕ) (fields : List ℕ → Bool) (n w : ℕ) where
   pub formed : inForm ws fields n w ≡ true → Formed ws fields n w
   unfolding inForm marksInForm
@@ -26,6 +26,10 @@ module _ (ws : List ℕ) (fields : List ℕ → Bool) (n w : ℕ) where
       let first = and-eq-true-iff (ltb w (2 ^ total ws)) (ltb (marks w) (2 ^ n) && fields (unpack ws w)) .0 e in
       let second = and-eq-true-iff (ltb (marks w) (2 ^ n)) (fields (unpack ws w)) .0 (first .1) in
       record { small = ltb-true w (2 ^ total ws) (first .0); few = ltb-true (marks w) (2 ^ n) (second .0); passed = second .1 }
+
+  pub form-of : Formed ws fields n w → inForm ws fields n w ≡ true
+  unfolding inForm marksInForm
+  form-of g = rw (lt-ltb w (2 ^ total ws) (g .small), lt-ltb (marks w) (2 ^ n) (g .few), g .passed)
 
 -- What a form has to do with the contents of its words: `ws` are the widths above the marks.
 pub record Shape {X : Type 0} (values : X → ℕ → List ℕ) (from : List ℕ → X) (ws : List ℕ) (fields : List ℕ → Bool) (range : X → Bool) : Type 0 where
@@ -48,3 +52,7 @@ module _ {X : Type 0} {values : X → ℕ → List ℕ} {from : List ℕ → X} 
   -- A word in form is its content and its marks, written again.
   pub form-whole : (w : ℕ) → Formed (marksWidth ∷ ws) fields n w → pack (marksWidth ∷ ws) (values (from (unpack (marksWidth ∷ ws) w)) (marks w)) ≡ w
   form-whole w g = ap (pack (marksWidth ∷ ws)) (shape .again w (g .passed)) ∙ pack-unpack (marksWidth ∷ ws) w (g .small)
+
+  -- Its content is in range.
+  pub form-range : (w : ℕ) → Formed (marksWidth ∷ ws) fields n w → range (from (unpack (marksWidth ∷ ws) w)) ≡ true
+  form-range w g = sym (shape .ranged _ (marks w)) ∙ ap fields (shape .again w (g .passed)) ∙ g .passed

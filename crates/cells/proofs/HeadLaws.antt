@@ -6,7 +6,7 @@ use Prim.Native.Nat.{ℕ, _+_, _-_, _/_, _%_, _^_, _<_}
 use native.Mathlib.Nat.{mod-lt}
 use native.Mathlib.Numerals.{add-one}
 use native.Mathlib.Omega.{arith}
-use borrow.Author.Tests.{eqb-true, eqb-false, ne-eqb}
+use borrow.Author.Tests.{eqb-true, eqb-false, ne-eqb, le-leb}
 use lib.Dec.{eqb, ltb, leb}
 use lib.ListN.{getD}
 use Rattle.laws.proofs.Bits.{bit-read, bit-written}
@@ -16,7 +16,7 @@ use Rattle.cells.specs.Layout.{marksWidth, stateWidth, responseWidth, ho
 use Rattle.cells.specs.declared.head.Head.{Head}
 use Rattle.cells.specs.declared.head.Head.the-variants.{Free, Held}
 use Rattle.cells.proofs.Codec.{Codec, content-read, marks-read, word-injective}
-use Rattle.cells.proofs.Forms.{Formed, formed, Shape, written-form, form-whole}
+use Rattle.cells.proofs.Forms.{Formed, formed, Shape, written-form, form-whole, form-range}
 
 pub head-codec : Codec headValues headFrom
 head-codec = record { content-of = content; marks-of = lowest }
@@ -37,7 +37,7 @@ headInRange s n (Held q j r v) = ltb q s && ltb j (holderBound n)
 -- The fields of a head pass the test exactly if it is in range.
 head-ranged : (s n : ℕ) (x : Head) (m : ℕ) → headFieldsInForm s n (headValues x m) ≡ headInRange s n x
 unfolding headFieldsInForm outcomeInForm
-head-ranged s n (Free q) m = and-true (ltb q s)
+head-ranged s n (Free q) m = rw (le-leb 0 (holderBound n) (omega arith), and-true (ltb q s))
 head-ranged s n (Held q j r v) m = rw (ne-eqb (j + 1) 0 (λ z. omega arith), add-one j, and-true (ltb j (holderBound n)))
 
 -- Fields that pass the test are those of the head that they say.
@@ -90,7 +90,7 @@ module _ (x : Head) (m : ℕ) (f : Fit headWidths (headValues x m)) where
   unfolding headWord headInForm
   head-form s n = written-form (head-shape stateWidth responseWidth holderWidth s n) n x m f
 
--- A word in form is its head with its marks.
+-- A word in form is its head with its marks, and the head is in range.
 module _ (s n w : ℕ) (e : headInForm s n w ≡ true) where
   pub head-formed : Formed headWidths (headFieldsInForm s n) n w
   unfolding headInForm
@@ -99,3 +99,7 @@ module _ (s n w : ℕ) (e : headInForm s n w ≡ true) where
   pub head-whole : headWord (headOf w) (marks w) ≡ w
   unfolding headWord headOf
   head-whole = form-whole (head-shape stateWidth responseWidth holderWidth s n) n w head-formed
+
+  pub head-range : headInRange s n (headOf w) ≡ true
+  unfolding headOf
+  head-range = form-range (head-shape stateWidth responseWidth holderWidth s n) n w head-formed

@@ -10,3 +10,4 @@ pub mod Images
 pub mod Counts
 pub mod Ceilings
 pub mod Cases
+pub mod Theorem

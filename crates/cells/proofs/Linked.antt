@@ -2,21 +2,15 @@
 use mathlib.Core.Path.{_≡_, refl, ap, _∙_}
 use mathlib.Core.Bool.{Bool, true}
 use mathlib.Core.List.{List, _∷_}
-use Prim.Native.Nat.{ℕ, _+_, _^_, _<_, _≤_}
+use Prim.Native.Nat.{ℕ, _+_, _<_, _≤_}
 use native.Mathlib.Omega.{arith}
-use borrow.Author.Tests.{lt-ltb}
 use Rattle.cells.specs.Field.{unpack, total}
-use Rattle.cells.specs.Form.{marksInForm, inForm, headFieldsInForm, headInForm, announcementFieldsInForm, announcementInForm}
+use Rattle.cells.specs.Form.{inForm, headFieldsInForm, headInForm, announcementFieldsInForm, announcementInForm}
 use Rattle.cells.specs.Layout.{marksWidth, marks, value, addMark, removeMark}
 use Rattle.cells.proofs.Fields.{unpack-low}
-use Rattle.cells.proofs.Forms.{Formed, formed}
+use Rattle.cells.proofs.Forms.{formed, form-of}
 use Rattle.cells.proofs.MarkLaws.{SetsBit, adds, removes, set-below}
 use Rattle.cells.proofs.WordMarks.{add-mark, remove-mark, set-value, set-marks}
-
--- What a word in form has is what its test asks.
-form-of : (ws : List ℕ) (fields : List ℕ → Bool) (n w : ℕ) → Formed ws fields n w → inForm ws fields n w ≡ true
-unfolding inForm marksInForm
-form-of ws fields n w g = rw (lt-ltb w (2 ^ total ws) (g .small), lt-ltb (marks w) (2 ^ n) (g .few), g .passed)
 
 module _ (i n w : ℕ) (below : i < n) (most : n ≤ marksWidth) where
   -- The bit of task i is set or cleared in a word whose fields are tested without the marks.

@@ -1,15 +1,15 @@
 -- docs/FORMATS.md, "The cells": which words are in form, with s states, m operations and n tasks.
 use mathlib.Core.Bool.{Bool, true, _&&_, cond}
 use mathlib.Core.List.{List, [], _∷_}
-use Prim.Native.Nat.{ℕ, _^_}
+use Prim.Native.Nat.{ℕ, _^_, min}
 use lib.Dec.{eqb, ltb, leb}
 use lib.ListN.{getD}
 use Rattle.cells.specs.Field.{unpack, total}
 use Rattle.cells.specs.Layout.{headWidths, announcementWidths, marks}
 
--- The largest number in a holder field, with n tasks.
+-- The largest number in a holder field: with n tasks that of the last one, and 8 is the most.
 abbrev pub holderBound : ℕ → ℕ
-holderBound n = 8
+holderBound n = min n 8
 
 -- The marks are those of tasks below n.
 unfoldable pub marksInForm : ℕ → ℕ → Bool
@@ -28,7 +28,7 @@ unfoldable pub headFieldsInForm : ℕ → ℕ → List ℕ → Bool
 headFieldsInForm s n vs =
     ltb (getD vs 1 0) s && (leb (getD vs 3 0) (holderBound n) && outcomeInForm (getD vs 3 0) (getD vs 2 0) (getD vs 4 0))
 
--- A head in form.
+-- A head in form: the reading of a head is this test, with n, and then `headOf`, which takes the word apart.
 unfoldable pub headInForm : ℕ → ℕ → ℕ → Bool
 headInForm s n w = inForm headWidths (headFieldsInForm s n) n w
 

@@ -6,3 +6,4 @@ pub mod Image
 pub mod Count
 pub mod Ceiling
 pub mod Cases
+pub mod Statement

@@ -48,6 +48,9 @@ pub fn head_in_form(word: u64, states: u32, tasks: usize) -> bool
     if holder > HOLDER_BOUND {
         return false;
     }
+    if holder > tasks as u64 {
+        return false;
+    }
     if holder == 0 {
         return fits_unmoved(response == 0, moved);
     }

@@ -1,6 +1,6 @@
 -- A decision that is known, and one that a test or a choice agrees with.
-use mathlib.Core.Path.{_≡_, refl}
-use mathlib.Core.Bool.{true, false, cond}
+use mathlib.Core.Path.{_≡_, refl, sym}
+use mathlib.Core.Bool.{Bool, true, false, cond}
 use mathlib.Core.Logic.{ite}
 use Prim.Native.Nat.{ℕ}
 use borrow.Author.Tests.{eq-eqb, ne-eqb}
@@ -24,3 +24,9 @@ eqb-decided j i (no e) = ne-eqb j i e
 pub cond-ite : {A B P : Type 0} (f : A → B) (d : Dec P) (x y : A) → cond (decided d) (f x) (f y) ≡ f (ite d x y)
 cond-ite f (yes e) x y = refl
 cond-ite f (no e) x y = refl
+
+-- Two tests that hold together are one.
+pub same-tests : (a b : Bool) → (a ≡ true → b ≡ true) → (b ≡ true → a ≡ true) → a ≡ b
+same-tests true b f g = sym (f refl)
+same-tests false true f g = g refl
+same-tests false false f g = refl

@@ -1,1 +1,3 @@
 pub mod Phases
+pub mod Forms
+pub mod Saved

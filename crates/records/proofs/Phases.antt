@@ -1,13 +1,16 @@
 -- Which number has which phase, and the task that a phase works for.
 use mathlib.Core.Path.{_≡_, refl, sym, ap, subst, _∙_}
-use mathlib.Core.Bool.{Bool, true, false, cond, _&&_, and-eq-true-iff}
+use mathlib.Core.Bool.{Bool, true, false, cond, _&&_, or-true, and-eq-true-iff}
 use mathlib.Core.List.{List, [], _∷_}
 use Prim.Native.Nat.{ℕ, zero, suc, _+_, _*_, _-_, _%_, _≤_, _<_}
+use native.Mathlib.Nat.{mod-lt}
 use native.Mathlib.Omega.{arith}
-use borrow.Author.Tests.{ne-eqb, le-leb, lt-leb, le-ltb, ltb-true, leb-true}
+use borrow.Author.Tests.{eqb-true, ne-eqb, le-leb, lt-leb, lt-ltb, le-ltb, ltb-true, leb-true}
 use lib.Arith.{lt-of-le-ne}
 use lib.Dec.{eqb, leb, ltb}
 use lib.ListN.{length, getD}
+use Rattle.laws.proofs.Clash.{never}
+use Rattle.refusal.specs.declared.Refusal.{Refusal}
 use Rattle.refusal.specs.declared.Refusal.the-variants as cause
 use Rattle.records.specs.declared.phase.Phase.{Phase}
 use Rattle.records.specs.declared.phase.Phase.the-variants.{Idle, ReadOnly, Announce, Poll, LoadHead, LinkHead, LoadPriority, LoadOwn, LoadExit, LinkExit, ClearExit, ReleaseExit, Retract, ClearHead, ReloadClear, Apply, ReloadApply, LoadHelped, LinkHelped, Validate, HandOver, ReloadHandOver, Release, ReloadRelease}
@@ -154,46 +157,55 @@ unused k h a =
     let e : k ≡ 15 = omega arith in
     ap phaseOf e
 
--- What is read works for a task below n, if it is a phase.
-record Named (n : ℕ) (read : PhaseRead) : Type 0 where
+-- What is read from the number k: a phase with that number, which works for a task below n, or the refusal with 11.
+record Named (n k : ℕ) (read : PhaseRead) : Type 0 where
   works : (f : Phase) → read ≡ Known f → WorksBelow n f
+  number : (f : Phase) → read ≡ Known f → phaseNumber f ≡ k
+  refused : (c : Refusal) → read ≡ Refused c → c ≡ cause.Record
 
-module _ {n : ℕ} where
-  choose : (b : Bool) (f : Phase) (other : PhaseRead) → (b ≡ true → WorksBelow n f) → Named n other → Named n (cond b (Known f) other)
-  choose true f other w r = record { works = λ g e. let same : f ≡ g = cc in subst (λ (x : Phase). WorksBelow n x) same (w refl) }
+module _ {n k : ℕ} where
+  choose : (b : Bool) (f : Phase) (other : PhaseRead) → (b ≡ true → WorksBelow n f × (phaseNumber f ≡ k)) → Named n k other → Named n k (cond b (Known f) other)
+  choose true f other w r = record {
+    works = λ g e. let same : f ≡ g = cc in subst (λ (x : Phase). WorksBelow n x) same (w refl .0);
+    number = λ g e. let same : f ≡ g = cc in ap phaseNumber (sym same) ∙ w refl .1;
+    refused = λ c e. never cc;
+  }
   choose false f other w r = r
 
-  none : Named n (Refused cause.Record)
-  none = record { works = λ g e. absurd (let z : _≡_ {A = ℕ} 0 1 = cc in omega arith) }
+  none : Named n k (Refused cause.Record)
+  none = record { works = λ g e. never cc; number = λ g e. never cc; refused = λ c e. cc }
 
 module _ (n k : ℕ) (h : namesTask n k ≡ true) where
-  inside : (first : ℕ) → 16 ≤ first → first % 8 ≡ 0 → leb first k && leb k (first + 7) ≡ true → k - first < n
+  single : (m : ℕ) → eqb k m ≡ true → Unit {0} × (m ≡ k)
+  single m b = (tt, sym (eqb-true k m b))
+
+  inside : (first : ℕ) → 16 ≤ first → first % 8 ≡ 0 → leb first k && leb k (first + 7) ≡ true → (k - first < n) × (first + (k - first) ≡ k)
   unfolding namesTask
   inside first l m t =
       let both = and-eq-true-iff (leb first k) (leb k (first + 7)) .0 t in
       let low : first ≤ k = leb-true first k (both .0) in
       let high : k ≤ first + 7 = leb-true k (first + 7) (both .1) in
       let named : ltb (k % 8) n ≡ true = rw (le-ltb k 16 (omega arith)) at h in
-      omega (arith, ltb-true (k % 8) n named)
+      (omega (arith, ltb-true (k % 8) n named), omega arith)
 
-  every : Named n (phaseOf k)
+  every : Named n k (phaseOf k)
   unfolding phaseOf
   every =
-      (choose (eqb k 0) Idle _ (λ b. tt)
-      (choose (eqb k 1) ReadOnly _ (λ b. tt)
-      (choose (eqb k 2) Announce _ (λ b. tt)
-      (choose (eqb k 3) Poll _ (λ b. tt)
-      (choose (eqb k 4) LoadHead _ (λ b. tt)
-      (choose (eqb k 5) LinkHead _ (λ b. tt)
-      (choose (eqb k 6) LoadPriority _ (λ b. tt)
-      (choose (eqb k 7) LoadOwn _ (λ b. tt)
-      (choose (eqb k 8) LoadExit _ (λ b. tt)
-      (choose (eqb k 9) LinkExit _ (λ b. tt)
-      (choose (eqb k 10) ClearExit _ (λ b. tt)
-      (choose (eqb k 11) ReleaseExit _ (λ b. tt)
-      (choose (eqb k 12) Retract _ (λ b. tt)
-      (choose (eqb k 13) ClearHead _ (λ b. tt)
-      (choose (eqb k 14) ReloadClear _ (λ b. tt)
+      (choose (eqb k 0) Idle _ (single 0)
+      (choose (eqb k 1) ReadOnly _ (single 1)
+      (choose (eqb k 2) Announce _ (single 2)
+      (choose (eqb k 3) Poll _ (single 3)
+      (choose (eqb k 4) LoadHead _ (single 4)
+      (choose (eqb k 5) LinkHead _ (single 5)
+      (choose (eqb k 6) LoadPriority _ (single 6)
+      (choose (eqb k 7) LoadOwn _ (single 7)
+      (choose (eqb k 8) LoadExit _ (single 8)
+      (choose (eqb k 9) LinkExit _ (single 9)
+      (choose (eqb k 10) ClearExit _ (single 10)
+      (choose (eqb k 11) ReleaseExit _ (single 11)
+      (choose (eqb k 12) Retract _ (single 12)
+      (choose (eqb k 13) ClearHead _ (single 13)
+      (choose (eqb k 14) ReloadClear _ (single 14)
       (choose (leb 16 k && leb k 23) (Apply (k - 16)) _ (inside 16 (omega arith) (omega arith))
       (choose (leb 24 k && leb k 31) (ReloadApply (k - 24)) _ (inside 24 (omega arith) (omega arith))
       (choose (leb 32 k && leb k 39) (LoadHelped (k - 32)) _ (inside 32 (omega arith) (omega arith))
@@ -206,4 +218,16 @@ module _ (n k : ℕ) (h : namesTask n k ≡ true) where
 
   -- A number that names a task below n is read as a phase that works for a task below n.
   pub works : (f : Phase) → phaseOf k ≡ Known f → WorksBelow n f
-  works f e = every .works f e
+  works = every .works
+
+-- What is read is the phase with that number, or the refusal with 11.
+module _ (k : ℕ) where
+  eight : namesTask 8 k ≡ true
+  unfolding namesTask
+  eight = rw (lt-ltb (k % 8) 8 (mod-lt k (omega arith))) (or-true (ltb k 16))
+
+  pub number-read : (f : Phase) → phaseOf k ≡ Known f → phaseNumber f ≡ k
+  number-read = every 8 k eight .number
+
+  pub refused-read : (c : Refusal) → phaseOf k ≡ Refused c → c ≡ cause.Record
+  refused-read = every 8 k eight .refused

@@ -1,4 +1,5 @@
 -- The forms of a task's record, with a table's shape, n tasks and their ceiling. docs/RECORDS.md says the same in words.
+use mathlib.Core.Path.{_≡_}
 use mathlib.Core.Bool.{Bool, true, cond, _&&_, _||_}
 use Prim.Native.Nat.{ℕ, _%_}
 use lib.Dec.{eqb, leb, ltb}
@@ -6,6 +7,7 @@ use Rattle.refusal.specs.declared.Refusal.the-variants as cause
 use Rattle.cells.specs.Form.{headInForm, announcementInForm}
 use Rattle.table.specs.declared.Shape.{Shape}
 use Rattle.records.specs.declared.record.Task.{Task}
+use Rattle.records.specs.declared.phase.Phase.{Phase}
 use Rattle.records.specs.declared.phase.PhaseRead.{PhaseRead}
 use Rattle.records.specs.declared.phase.PhaseRead.the-variants.{Known, Refused}
 use Rattle.records.specs.Phase.{phaseOf}
@@ -52,3 +54,7 @@ readInForm fits (Refused reason) = Refused reason
 
 unfoldable pub readRecord : Shape → (n ceiling : ℕ) → Task → PhaseRead
 readRecord shape n ceiling t = readInForm (recordInForm shape n ceiling t) (phaseOf (t .phase))
+
+-- A record in the forms of docs/RECORDS.md: its number is a phase, and its fields have that phase's form. It isn't refused with 11.
+abbrev pub RecordFits : Shape → (n ceiling : ℕ) → Task → Type 0
+RecordFits shape n ceiling t = (f : Phase) × (readRecord shape n ceiling t ≡ Known f)

@@ -3,7 +3,7 @@ use mathlib.Core.Path.{_≡_, refl, ap, sym}
 use mathlib.Core.Bool.{true, cond}
 use mathlib.Core.Logic.{_↔_, ite}
 use mathlib.Core.List.{List, _∷_}
-use Prim.Native.Nat.{ℕ, zero, suc, _+_, _<_, _≤_}
+use Prim.Native.Nat.{ℕ, _+_, _<_, _≤_}
 use native.Mathlib.Numerals.{add-one}
 use native.Mathlib.Omega.{arith}
 use borrow.Author.Tests.{ne-eqb}
@@ -12,8 +12,11 @@ use lib.ListN.{length, getD, set}
 use lib.Seq.{set-getD}
 use Rattle.laws.specs.Update.{update}
 use Rattle.laws.specs.Decision.{decided}
+use Rattle.laws.specs.Tabulate.{tabulate}
 use Rattle.laws.proofs.Decision.{cond-ite}
+use Rattle.cells.specs.Form.{cellsInForm}
 use Rattle.cells.specs.Layout.{marksWidth, kindIn}
+use Rattle.cells.proofs.Images.{cells-by-each}
 use Rattle.table.specs.declared.Shape.{Shape}
 use Rattle.machine.specs.Object.{Object}
 use Rattle.machine.specs.Memory.{Cell, Content, Empty, Memory, head-dec, announcement-dec}
@@ -78,9 +81,11 @@ module _ (file : List ℕ) (shape : Shape) (table : ObjectTable file shape) (n :
     touched-in-form (SwapAnnouncement j a c) f = announcement-touched j (f .0)
 
     -- So is every cell.
-    pub encoded-in-form : (k : ℕ) → k ≤ n → cellInForm shape n k (getD (encodeCells n m) k 0) ≡ true
-    encoded-in-form zero h = touched-in-form ReadHead tt
-    encoded-in-form (suc j) h = rw (← add-one j) (announcement-touched j (omega arith))
+    pub encoded-in-form : cellsInForm (shape .states) (shape .operations) n (encodeCells n m) ≡ true
+    encoded-in-form =
+        let encode : ℕ → ℕ = λ j. encodeAnnouncement (m .announcement j) in
+        cells-by-each (shape .states) (shape .operations) n (encodeHead (m .head)) (tabulate n encode) (head-in-form file shape table n most (m .head) (ranged .head))
+        (λ k l. rw (tabulate-at n encode 0 k (rw (tabulate-length n encode) at l)) (announcement-in-form file shape table n most (m .announcement k) (ranged .announcement k)))
 
     -- What the access gives back.
     pub result-simulates : (a : machine.Access) → AccessFormed a → foundOf (getD (encodeCells n m) (touched (encodeAccess a)) 0) (encodeAccess a) ≡ encodeResult (result a m)

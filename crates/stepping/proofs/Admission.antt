@@ -1,8 +1,8 @@
 -- What an admitted call knows of the row and of the ceiling.
-use mathlib.Core.Path.{_≡_, refl}
+use mathlib.Core.Path.{_≡_, refl, ap, _∙_}
 use mathlib.Core.Bool.{Bool, true, false}
 use mathlib.Core.List.{List}
-use Prim.Native.Nat.{ℕ, _-_, _<_, _≤_}
+use Prim.Native.Nat.{ℕ, _-_, _*_, _<_, _≤_}
 use native.Mathlib.Omega.{arith}
 use borrow.Author.Tests.{leb-true}
 use lib.Dec.{leb}
@@ -14,6 +14,7 @@ use Rattle.refusal.specs.declared.Refusal.{Refusal}
 use Rattle.cells.specs.Ceiling.{greatestCeiling, ceilings, ceilingOf}
 use Rattle.cells.specs.declared.ceiling.Ceiling.{Ceiling}
 use Rattle.cells.specs.declared.ceiling.Ceiling.the-variants as ceiling
+use Rattle.cells.proofs.Ceilings.{ceiling-cubed}
 use Rattle.table.specs.declared.Shape.{Shape}
 use Rattle.table.specs.declared.Checked.{Checked}
 use Rattle.table.specs.declared.Checked.the-variants as table
@@ -46,15 +47,30 @@ ceiling-ranges n c e = at (leb 1 n) (leb n 8) refl refl
     at true false p q = absurd (refused (simp (p, q) at e))
     at false b p q = absurd (refused (simp p at e))
 
--- A call is admitted only with a row and a ceiling in these ranges.
-pub admitted-ranges : (n c : ℕ) (shape : Shape) (checked : Checked) → withRow n checked ≡ admitted.Admits c shape → Ranges n c
-admitted-ranges n c shape (table.Accepted found) e = at (ceilingOf n) refl e
+-- A call is admitted only with a layout that is accepted and a ceiling for its row, which are then in these ranges.
+admitted-parts : (n c : ℕ) (shape : Shape) (checked : Checked) → withRow n checked ≡ admitted.Admits c shape → (checked ≡ table.Accepted shape) × (ceilingOf n ≡ ceiling.Steps c)
+admitted-parts n c shape (table.Accepted found) e = at (ceilingOf n) refl e
   where
-    at : (x : Ceiling) → ceilingOf n ≡ x → withCeiling found x ≡ admitted.Admits c shape → Ranges n c
-    at (ceiling.Steps d) p q = let r : d ≡ c = cc in ceiling-ranges n c (rw r at p)
+    at : (x : Ceiling) → ceilingOf n ≡ x → withCeiling found x ≡ admitted.Admits c shape → (table.Accepted found ≡ table.Accepted shape) × (ceilingOf n ≡ ceiling.Steps c)
+    at (ceiling.Steps d) p q =
+        let same : found ≡ shape = cc in
+        let high : d ≡ c = cc in
+        (ap table.Accepted same, p ∙ ap ceiling.Steps high)
     at (ceiling.Refused reason) p q = never cc
-admitted-ranges n c shape (table.Refused reason) e = never cc
+admitted-parts n c shape (table.Refused reason) e = never cc
 
-pub admit-ranges : (file : List ℕ) (n c : ℕ) (shape : Shape) → admitOf file n ≡ admitted.Admits c shape → Ranges n c
+pub admitted-ranges : (n c : ℕ) (shape : Shape) (checked : Checked) → withRow n checked ≡ admitted.Admits c shape → Ranges n c
+admitted-ranges n c shape checked e = ceiling-ranges n c (admitted-parts n c shape checked e .1)
+
+module _ (file : List ℕ) (n c : ℕ) (shape : Shape) (e : admitOf file n ≡ admitted.Admits c shape) where
+  pub admit-parts : (layoutOf file ≡ table.Accepted shape) × (ceilingOf n ≡ ceiling.Steps c)
+  unfolding admitOf
+  admit-parts = admitted-parts n c shape (layoutOf file) e
+
+  pub admit-ranges : Ranges n c
+  admit-ranges = ceiling-ranges n c (admit-parts .1)
+
+-- With both it is admitted, and the ceiling is 1,000·n³.
+pub admits : (file : List ℕ) (n : ℕ) (shape : Shape) → layoutOf file ≡ table.Accepted shape → 1 ≤ n → n ≤ 8 → admitOf file n ≡ admitted.Admits (1000 * (n * n * n)) shape
 unfolding admitOf
-admit-ranges file n c shape e = admitted-ranges n c shape (layoutOf file) e
+admits file n shape e some few = rw (e, ceiling-cubed n some few)

@@ -1,12 +1,11 @@
 -- A run of the calls: after an opening, cells, row and answers are the machine's, whatever the calls, and so demands 2 and 3
 -- are met.
-use mathlib.Core.Path.{_≡_, ap, sym, _∙_}
-use mathlib.Core.Bool.{true}
+use mathlib.Core.Path.{_≡_, ap, sym, subst, _∙_}
 use mathlib.Core.Logic.{_↔_}
 use mathlib.Core.List.{List, [], _∷_, _++_}
 use Prim.Native.Nat.{ℕ, _<_, _≤_}
 use native.Mathlib.Omega.{arith}
-use lib.ListN.{getD}
+use Rattle.laws.proofs.Tabulate.{tabulate-length}
 use Rattle.laws.proofs.Clash.{clash, never}
 use Rattle.cells.specs.Image as words
 use Rattle.machine.specs.Object.{Object}
@@ -27,16 +26,17 @@ use Rattle.machine.proofs.Invariant.Ranges.{formed-run}
 use Rattle.machine.proofs.Points.OwnSteps.{own-record}
 use Rattle.machine.proofs.Points.Pending.{pending-is}
 use Rattle.machine.proofs.Whole.WaitFree.{bound-ceiling, pending-steps}
-use Rattle.transition.specs.Encoding.{encodeAccess}
+use Rattle.records.specs.Record.{RecordFits}
+use Rattle.transition.specs.Encoding.{encodeTask, encodeAccess}
 use Rattle.transition.proofs.Lawful.{object-lawful}
-use Rattle.stepping.specs.Step.{cellInForm}
+use Rattle.stepping.specs.Call.{taskAt}
 use Rattle.stepping.specs.Access.{accessOf}
 use Rattle.stepping.specs.Runs.{Store, CallOutcome, serveOf, runOf, historyOf}
 use Rattle.stepping.specs.Opening.{Opening, objectIn, shown}
-use Rattle.stepping.specs.Statement.{recordAfter, EmptyAt, Emptied}
+use Rattle.stepping.specs.Statement.{recordAfter, PointInForm, EmptyAt, Emptied}
 use Rattle.stepping.specs.Encoding.{encodeCells, encodeConfig}
-use Rattle.stepping.proofs.Accesses.{encoded-empty, encoded-in-form}
-use Rattle.stepping.proofs.Simulation.{InRange, serve-simulates, run-simulates, history-simulates, access-simulates}
+use Rattle.stepping.proofs.Accesses.{cells-length, encoded-empty, encoded-in-form}
+use Rattle.stepping.proofs.Simulation.{ceiling, InRange, record-fits, serve-simulates, run-simulates, history-simulates, access-simulates}
 use Rattle.stepping.proofs.Starts.{start-cells, start-row}
 
 -- Every list of calls leads from a good start state to a configuration in range.
@@ -100,9 +100,14 @@ module _ {file : List ℕ} {n q : ℕ} {s : Store} (o : Opening file n q s) wher
     pub refused-opened : (x : Call) (k : ℕ) → serveOf file x (runOf file xs s) .answer ≡ Refused k → (7 ≤ k) × (k ≤ 10)
     refused-opened x k e = refuses (serving (objectIn o) n (machineRun xs) x) k (sym (answer-opened x) ∙ e)
 
-    -- Every cell is in form.
-    pub formed-opened : (k : ℕ) → k ≤ n → cellInForm (o .shape) n k (getD (runOf file xs s .cells) k 0) ≡ true
-    formed-opened k h = rw run-opened (encoded-in-form file (o .shape) (o .table) n (o .few) (machineRun xs .memory) (in-range xs .formed .memory) k h)
+    -- Cells and records are in form.
+    pub point-in-form : PointInForm o xs
+    point-in-form = record {
+      cells-long = rw run-opened (cells-length n (machineRun xs .memory));
+      cells = rw run-opened (encoded-in-form file (o .shape) (o .table) n (o .few) (machineRun xs .memory) (in-range xs .formed .memory));
+      row-long = rw run-opened (tabulate-length n (λ i. encodeTask (machineRun xs .task i)));
+      row = λ i below. subst (λ (z : Store). RecordFits (o .shape) n (ceiling n) (taskAt (z .row) i)) (sym run-opened) (record-fits file (o .shape) (o .table) n (o .some) (o .few) (machineRun xs) (in-range xs) i below);
+    }
 
     -- The announcements in the cells are those of the machine.
     announcement-opened : (t : ℕ) → t < n → EmptyAt (runOf file xs s .cells) t ↔ (content (machineRun xs .memory) t ≡ Empty)

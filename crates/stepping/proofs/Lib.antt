@@ -1,4 +1,6 @@
 pub mod Admission
+pub mod Passed
+pub mod Forms
 pub mod Ready
 pub mod Parts
 pub mod Refused

@@ -1,5 +1,5 @@
 -- Begin and step on encoded cells and records do what the machine's begin and step do on the configuration.
-use mathlib.Core.Path.{_≡_, refl, ap, _∙_}
+use mathlib.Core.Path.{_≡_, refl, ap, sym, subst, _∙_}
 use mathlib.Core.Bool.{Bool, true, false, cond}
 use mathlib.Core.List.{List, [], _∷_}
 use Prim.Native.Nat.{ℕ, _+_, _*_, _<_, _≤_}
@@ -11,7 +11,6 @@ use Rattle.refusal.specs.declared.Refusal.{Refusal}
 use Rattle.refusal.specs.declared.Refusal.the-variants as cause
 use Rattle.refusal.specs.Number.{numberOf}
 use Rattle.cells.specs.Layout.{marksWidth}
-use Rattle.cells.proofs.Ceilings.{ceiling-cubed}
 use Rattle.table.specs.declared.Shape.{Shape}
 use Rattle.table.specs.Entries.{operationInRange, changing}
 use Rattle.table.proofs.Accepted.{accepted-parts, accepted-operation}
@@ -28,9 +27,9 @@ use Rattle.records.specs.declared.phase.Phase.the-variants as phase
 use Rattle.transition.specs.declared.access.Next.{Next}
 use Rattle.stepping.specs.declared.answer.Begin as declared
 use Rattle.stepping.specs.declared.answer.BeginAnswer.the-variants as opening
-use Rattle.stepping.specs.declared.call.Admitted.the-variants as admitted
+use Rattle.stepping.specs.declared.call.Admitted.the-variants as answer
 use Rattle.records.specs.Phase.{phaseNumber}
-use Rattle.records.specs.Record.{idleTask, readRecord}
+use Rattle.records.specs.Record.{idleTask, readRecord, RecordFits}
 use Rattle.transition.specs.Transition.{nextOf}
 use Rattle.transition.specs.Object.{ObjectTable, objectOf}
 use Rattle.transition.specs.Encoding.{kept, encodeTask, encodeAccess, encodeResult}
@@ -41,7 +40,9 @@ use Rattle.stepping.specs.Call.{admitOf, refuseStep, stepFrom, stepTask,
 use Rattle.stepping.specs.Encoding.{encodeCells, encodeRow, encodeConfig, encodeServed}
 use Rattle.stepping.specs.Runs.{serveOf, runOf, historyOf}
 use Rattle.laws.proofs.Tabulate.{tabulate-length, tabulate-at, tabulate-set}
-use Rattle.stepping.proofs.Records.{pending-read, pending-number, idle-kept, idle-read}
+use Rattle.records.proofs.Saved.{idle-read}
+use Rattle.stepping.proofs.Admission.{admits}
+use Rattle.stepping.proofs.Records.{pending-read, pending-number, idle-kept, task-fits}
 use Rattle.stepping.proofs.Accesses.{cells-length, touched-in-form, result-simulates, perform-simulates}
 use Rattle.stepping.proofs.Planned.{plan-formed, entry-in-range}
 use Rattle.stepping.proofs.Advances.{advance-simulates, answer-simulates}
@@ -66,14 +67,13 @@ module _ (file : List ℕ) (shape : Shape) (table : ObjectTable file shape) (n :
   object = objectOf file shape
 
   -- The tests that all calls share are passed.
-  admits : admitOf file n ≡ admitted.Admits (ceiling n) shape
-  unfolding admitOf
-  admits = rw (accepted-parts file shape (table .accepted) .0, ceiling-cubed n some most)
+  admitted : admitOf file n ≡ answer.Admits (ceiling n) shape
+  admitted = admits file n shape (accepted-parts file shape (table .accepted) .0) some most
 
   -- One task's part of a step: task i is below n, or refused.
   step-task : (m : Memory) (i : ℕ) (t : Task) → stepTask file (encodeCells n m) n i t ≡ cond (ltb i n) (stepFrom file shape (encodeCells n m) n i t (readRecord shape n (ceiling n) t)) (refuseStep (encodeCells n m) t cause.Task)
   unfolding stepTask
-  step-task m i t = rw (admits, eq-eqb (length (encodeCells n m)) (n + 1) (cells-length n m))
+  step-task m i t = rw (admitted, eq-eqb (length (encodeCells n m)) (n + 1) (cells-length n m))
 
   module _ (c : Config) (range : InRange object n c) (i : ℕ) where
     -- The row has n records, and the record of task i is its encoding.
@@ -82,6 +82,10 @@ module _ (file : List ℕ) (shape : Shape) (table : ObjectTable file shape) (n :
 
     task-at : i < n → taskAt (encodeRow n (c .task)) i ≡ encodeTask (c .task i)
     task-at below = tabulate-at n (λ k. encodeTask (c .task k)) (idleTask 0) i below
+
+    -- It is in form.
+    pub record-fits : i < n → RecordFits shape n (ceiling n) (taskAt (encodeRow n (c .task)) i)
+    record-fits below = subst (RecordFits shape n (ceiling n)) (sym (task-at below)) (task-fits file shape table n most (ceiling n) (c .task i) (range .formed .task i below) (range .timely i below))
 
     -- A step of the row is the step of its task; a refused one leaves the row.
     step-store : (out : TaskOutcome) → stepTask file (encodeCells n (c .memory)) n i (taskAt (encodeRow n (c .task)) i) ≡ out → serveOf file (Step i) (encodeConfig n c) ≡ record { store = record { cells = out .cells; row = set (encodeRow n (c .task)) i (out .task) }; answer = stepSaid (out .answer) }
@@ -99,7 +103,7 @@ module _ (file : List ℕ) (shape : Shape) (table : ObjectTable file shape) (n :
     step-idle below e =
         let t = range .formed .task i below in
         step-refused cause.Idle
-        (rw (task-at below, idle-kept file shape table n some most (c .task i) t e, step-task (c .memory) i (idleTask (c .task i .priority)), lt-ltb i n below, idle-read file shape table n some most (ceiling n) (c .task i .priority) (t .priority)))
+        (rw (task-at below, idle-kept file shape table n most (c .task i) t e, step-task (c .memory) i (idleTask (c .task i .priority)), lt-ltb i n below, idle-read shape n (ceiling n) (c .task i .priority) (t .priority)))
 
     -- The access, and what follows for the record, of a pending operation's step.
     abbrev accessOf : machine.Access
@@ -109,7 +113,7 @@ module _ (file : List ℕ) (shape : Shape) (table : ObjectTable file shape) (n :
     unfolding wordAccess
     access-simulates below e =
         let t = range .formed .task i below in
-        rw (task-at below, admits, pending-read file shape table n some most (ceiling n) (c .task i) t e (range .timely i below e))
+        rw (task-at below, admitted, pending-read file shape table n most (ceiling n) (c .task i) t e (range .timely i below e))
         (plan-simulates file shape table n most i (c .task i .priority) (c .task i .operation) (c .task i .steps) below (c .task i .phase) (t .phase))
 
     abbrev nextIn : Next
@@ -124,7 +128,7 @@ module _ (file : List ℕ) (shape : Shape) (table : ObjectTable file shape) (n :
         let s = c .task i .steps in
         let f = c .task i .phase in
         let a = plan-formed file shape table n most i p x s below f e (t .priority) (t .phase) in
-        rw (step-task (c .memory) i (encodeTask (c .task i)), lt-ltb i n below, pending-read file shape table n some most (ceiling n) (c .task i) t e (range .timely i below e), pending-number file shape table n some most (c .task i) t e, plan-simulates file shape table n most i p x s below f (t .phase), touched-in-form file shape table n most (c .memory) m accessOf a, entry-in-range file shape table n most i p x s below (c .memory) m f (t .phase) (t .operation), result-simulates file shape table n most (c .memory) m accessOf a, perform-simulates file shape table n most (c .memory) m accessOf a)
+        rw (step-task (c .memory) i (encodeTask (c .task i)), lt-ltb i n below, pending-read file shape table n most (ceiling n) (c .task i) t e (range .timely i below e), pending-number file shape table n most (c .task i) t e, plan-simulates file shape table n most i p x s below f (t .phase), touched-in-form file shape table n most (c .memory) m accessOf a, entry-in-range file shape table n most i p x s below (c .memory) m f (t .phase) (t .operation), result-simulates file shape table n most (c .memory) m accessOf a, perform-simulates file shape table n most (c .memory) m accessOf a)
 
     step-pending : i < n → off (kind (c .task i .phase)) ≡ false → serveOf file (Step i) (encodeConfig n c) ≡ encodeServed n (stepped object n i c)
     step-pending below e =
@@ -147,7 +151,7 @@ module _ (file : List ℕ) (shape : Shape) (table : ObjectTable file shape) (n :
     module _ (o : ℕ) where
       begin-task : (t : Task) → beginTask file n i o t ≡ cond (ltb i n) (cond (ltb o (shape .operations)) (cond (operationInRange file shape o) (beginFrom file shape o t (readRecord shape n (ceiling n) t)) (refuseBegin t cause.NextState)) (refuseBegin t cause.Operation)) (refuseBegin t cause.Task)
       unfolding beginTask
-      begin-task t = rw admits
+      begin-task t = rw admitted
 
       begin-store : (out : declared.Begin) → beginTask file n i o (taskAt (encodeRow n (c .task)) i) ≡ out → serveOf file (Begin i o) (encodeConfig n c) ≡ record { store = record { cells = encodeCells n (c .memory); row = set (encodeRow n (c .task)) i (out .task) }; answer = beginSaid (out .answer) }
       unfolding beginOf
@@ -170,14 +174,14 @@ module _ (file : List ℕ) (shape : Shape) (table : ObjectTable file shape) (n :
         begin-pending e =
             let t = range .formed .task i below in
             begin-refused cause.Pending
-            (rw (task-at below, begin-known (encodeTask (c .task i)), pending-read file shape table n some most (ceiling n) (c .task i) t e (range .timely i below e), pending-number file shape table n some most (c .task i) t e))
+            (rw (task-at below, begin-known (encodeTask (c .task i)), pending-read file shape table n most (ceiling n) (c .task i) t e (range .timely i below e), pending-number file shape table n most (c .task i) t e))
 
         begin-idle : off (kind (c .task i .phase)) ≡ true → serveOf file (Begin i o) (encodeConfig n c) ≡ encodeServed n (begun object i o c)
         begin-idle e =
             let t = range .formed .task i below in
             let p = c .task i .priority in
             begin-store (record { task = begunTask file shape o (idleTask p); answer = opening.Begun })
-            (rw (task-at below, idle-kept file shape table n some most (c .task i) t e, begin-known (idleTask p), idle-read file shape table n some most (ceiling n) p (t .priority)))
+            (rw (task-at below, idle-kept file shape table n most (c .task i) t e, begin-known (idleTask p), idle-read shape n (ceiling n) p (t .priority)))
             ∙ rw (begun-encoded o p (changing file shape o), tabulate-set encodeTask n (c .task) i (record { phase = firstPhase (changing file shape o); operation = o; priority = p; steps = 0 }) below)
 
       -- A call of begin, whatever its numbers.

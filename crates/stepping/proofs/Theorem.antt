@@ -22,10 +22,11 @@ use Rattle.stepping.specs.Call.{StartOutcome}
 use Rattle.stepping.specs.Runs.{Store}
 use Rattle.stepping.specs.Opening.{Opening, objectIn}
 use Rattle.stepping.specs.Lent.{Places}
-use Rattle.stepping.specs.Statement.{MakesAccess, FollowsResult, Local, OneCell, BeginByRecord, StepByRecord, StartUnchanged, BeginUnchanged, StepUnchanged, BeginRecordUnchanged, StepRecordUnchanged, Startable, StartOpens, Demands, SharperDemands, Independent, Answered, Carried, CellsInForm, Refusals, Endings, Emptied, Between, OpensNext}
+use Rattle.stepping.specs.Statement.{MakesAccess, FollowsResult, Local, OneCell, BeginByRecord, StepByRecord, StartUnchanged, BeginUnchanged, StepUnchanged, BeginRecordUnchanged, StepRecordUnchanged, HeadsInForm, KeepsForm, HolderAbove, SavedHolderAbove, BeginHolderAbove, Startable, StartOpens, Demands, SharperDemands, Independent, Answered, Carried, InFormThroughout, Refusals, Endings, Emptied, Between, OpensNext}
 use Rattle.stepping.proofs.Between.{between, opens-next}
-use Rattle.stepping.proofs.Demands.{opens, formed-opened, history-opened, answer-opened, access-opened, refused-opened, emptied}
+use Rattle.stepping.proofs.Demands.{opens, point-in-form, history-opened, answer-opened, access-opened, refused-opened, emptied}
 use Rattle.stepping.proofs.Outcomes.{answered, met, unmoved}
+use Rattle.stepping.proofs.Forms.{heads-in-form, keeps-form, holder-above, saved-holder-above, begin-holder-above}
 use Rattle.stepping.proofs.Local.{step-local, step-elsewhere}
 use Rattle.stepping.proofs.AccessRule.{makes-access, follows-result}
 use Rattle.stepping.proofs.ByRecord.{begin-by-record, step-by-record}
@@ -75,6 +76,25 @@ step-record-unchanged file cells n i t c e =
     let same = refused-step file cells n i t c e in
     (ap (λ (out : TaskOutcome). out .cells) same, ap (λ (out : TaskOutcome). out .task) same)
 
+-- ---- Heads and records out of form
+
+-- A step that is not refused takes apart heads in form alone, and keeps its record in form.
+pub heads-formed : (file cells : List ℕ) (n i : ℕ) (t : Task) → HeadsInForm file cells n i t
+heads-formed = heads-in-form
+
+pub form-kept : (file cells : List ℕ) (n i : ℕ) (t : Task) → KeepsForm file cells n i t
+form-kept = keeps-form
+
+-- A holder above n is refused: in the cell that is touched with 12, in a saved head with 11.
+pub holder-refused : (file cells : List ℕ) (n i : ℕ) (t : Task) → HolderAbove file cells n i t
+holder-refused = holder-above
+
+pub saved-holder-refused : (file cells : List ℕ) (n i : ℕ) (t : Task) → SavedHolderAbove file cells n i t
+saved-holder-refused = saved-holder-above
+
+pub begin-holder-refused : (file : List ℕ) (n i o : ℕ) (t : Task) → BeginHolderAbove file n i o t
+begin-holder-refused = begin-holder-above
+
 -- ---- Start
 
 pub start-accepted : (file cells : List ℕ) (row : List Task) → Startable file cells row
@@ -99,8 +119,8 @@ module _ {file : List ℕ} {n q : ℕ} {s : Store} (o : Opening file n q s) wher
   unfolding demands-met
   carried-known = met o (1000 * (n * n * n)) (bound-ceiling n (o .some)) .1
 
-  pub cells-in-form : CellsInForm o
-  cells-in-form = formed-opened o
+  pub in-form-throughout : InFormThroughout o
+  in-form-throughout = point-in-form o
 
   pub refusals-known : Refusals o
   refusals-known xs x k e = refused-opened o xs x k e

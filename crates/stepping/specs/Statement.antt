@@ -7,15 +7,18 @@ use Prim.Native.Nat.{ℕ, _+_, _*_, _<_, _≤_}
 use lib.ListN.{length, getD, take}
 use Rattle.laws.specs.Places.{At}
 use Rattle.refusal.specs.declared.Refusal.{Refusal}
+use Rattle.cells.specs.Form.{headInForm, cellsInForm}
 use Rattle.cells.specs.Image.{image}
 use Rattle.cells.specs.Layout.{kindIn, headOf, announcementOf}
+use Rattle.cells.specs.Statement.{holderIn}
 use Rattle.cells.specs.declared.head.Head.the-variants as head
 use Rattle.cells.specs.declared.announcement.Announcement.the-variants as content
 use Rattle.table.specs.declared.Shape.{Shape}
 use Rattle.table.specs.declared.Checked.the-variants as table
 use Rattle.table.specs.File.{Bytes, shapeOf}
+use Rattle.table.specs.Layout.{layoutOf}
 use Rattle.table.specs.Check.{checkOf}
-use Rattle.table.specs.Entries.{entryOf, moves, changing}
+use Rattle.table.specs.Entries.{entryOf, operationInRange, moves, changing}
 use Rattle.machine.specs.Outcome.{Outcome}
 use Rattle.machine.specs.Calls.{Call, Step, Ended, Refused, Event}
 use Rattle.machine.specs.Book.{Operation, Book}
@@ -23,14 +26,15 @@ use Rattle.machine.specs.History.{Pends, pending, Rest, Begins, Ends, Open, rea
 use Rattle.machine.specs.Demand.{Shown, Demand}
 use Rattle.machine.specs.Ending.{Emptyings}
 use Rattle.records.specs.declared.record.Task.{Task}
+use Rattle.records.specs.Record.{RecordFits}
 use Rattle.transition.specs.declared.access.Access.the-variants.{Read, Write}
 use Rattle.transition.specs.Object.{objectOf}
 use Rattle.stepping.specs.declared.answer.StepAnswer.{StepAnswer}
 use Rattle.stepping.specs.declared.answer.StepAnswer.the-variants as step
 use Rattle.stepping.specs.declared.answer.BeginAnswer.the-variants as begin
 use Rattle.stepping.specs.declared.answer.StartAnswer.the-variants as start
-use Rattle.stepping.specs.Step.{touched, performOf, cellInForm, TaskOutcome}
-use Rattle.stepping.specs.Call.{startOf, beginTask, stepTask, taskAt, beginOf, stepOf}
+use Rattle.stepping.specs.Step.{touched, performOf, TaskOutcome}
+use Rattle.stepping.specs.Call.{beginSaid, stepSaid, startOf, beginTask, stepTask, taskAt, beginOf, stepOf}
 use Rattle.stepping.specs.Access.{accessOf, givenBack}
 use Rattle.stepping.specs.Runs.{Store, runOf}
 use Rattle.stepping.specs.Opening.{Opening, objectIn, shown, startStore}
@@ -116,6 +120,64 @@ abbrev pub StepRecordUnchanged : (file cells : List ℕ) (n i : ℕ) → Task �
 StepRecordUnchanged file cells n i t =
     (c : Refusal) → stepTask file cells n i t .answer ≡ step.Refused c → (stepTask file cells n i t .cells ≡ cells) × (stepTask file cells n i t .task ≡ t)
 
+-- ---- Heads and records out of form, for all arguments
+
+-- A record in form for n tasks of the table in a file.
+abbrev pub InForm : List ℕ → ℕ → Task → Type 0
+InForm file n t = RecordFits (shapeOf file) n (1000 * (n * n * n)) t
+
+-- A step that is not refused takes apart heads in form alone: the saved one is, and so is the one in cell 0 if the step touches it.
+abbrev pub HeadsInForm : (file cells : List ℕ) (n i : ℕ) → Task → Type 0
+HeadsInForm file cells n i t =
+    Unrefused (stepTask file cells n i t .answer)
+    → (headInForm (shapeOf file .states) n (t .head) ≡ true)
+    × (touched (accessOf file n i t) ≡ 0 → headInForm (shapeOf file .states) n (getD cells 0 0) ≡ true)
+
+-- It leaves a record in form, on whatever cells, if the record's count is still below the ceiling.
+abbrev pub KeepsForm : (file cells : List ℕ) (n i : ℕ) → Task → Type 0
+KeepsForm file cells n i t =
+    Unrefused (stepTask file cells n i t .answer)
+    → stepTask file cells n i t .task .steps < 1000 * (n * n * n) → InForm file n (stepTask file cells n i t .task)
+
+-- The tests of a step before 11 are passed: 1, 2, 3, 5, 6 and 7.
+pub record StepTested (file cells : List ℕ) (n i : ℕ) : Type 0 where
+  pub accepted : layoutOf file ≡ table.Accepted (shapeOf file)
+  pub some : 1 ≤ n
+  pub few : n ≤ 8
+  pub long : length cells ≡ n + 1
+  pub below : i < n
+
+-- Those of a begin are: 1, 2, 3, 5, 7, 8, and 4 on its operation's entries.
+pub record BeginTested (file : List ℕ) (n i o : ℕ) : Type 0 where
+  pub accepted : layoutOf file ≡ table.Accepted (shapeOf file)
+  pub some : 1 ≤ n
+  pub few : n ≤ 8
+  pub below : i < n
+  pub known : o < shapeOf file .operations
+  pub ranged : operationInRange file (shapeOf file) o ≡ true
+
+-- A step that is refused with the number k, and leaves cells and record.
+pub record RefusedWith (k : ℕ) (cells : List ℕ) (t : Task) (out : TaskOutcome) : Type 0 where
+  pub said : stepSaid (out .answer) ≡ Refused k
+  pub cells-left : out .cells ≡ cells
+  pub task-left : out .task ≡ t
+
+-- A pending step that touches a head whose holder is above n is refused with 12.
+abbrev pub HolderAbove : (file cells : List ℕ) (n i : ℕ) → Task → Type 0
+HolderAbove file cells n i t =
+    StepTested file cells n i → InForm file n t → t .phase ≢ 0
+    → touched (accessOf file n i t) ≡ 0 → n < holderIn (getD cells 0 0) → RefusedWith 12 cells t (stepTask file cells n i t)
+
+-- A pending record that has saved such a head is refused with 11, by step whatever the cells hold, and by begin.
+abbrev pub SavedHolderAbove : (file cells : List ℕ) (n i : ℕ) → Task → Type 0
+SavedHolderAbove file cells n i t =
+    StepTested file cells n i → t .phase ≢ 0 → n < holderIn (t .head) → RefusedWith 11 cells t (stepTask file cells n i t)
+
+abbrev pub BeginHolderAbove : List ℕ → (n i o : ℕ) → Task → Type 0
+BeginHolderAbove file n i o t =
+    BeginTested file n i o → t .phase ≢ 0 → n < holderIn (t .head)
+    → (beginSaid (beginTask file n i o t .answer) ≡ Refused 11) × (beginTask file n i o t .task ≡ t)
+
 -- ---- Start
 
 -- Start is accepted exactly if the table is, there are 1 to 8 records, and there is one cell more.
@@ -181,19 +243,26 @@ Carried {file} {q = q} o d = CarriedAlong file (o .shape) q (shown o) (d .book)
 
 -- ---- Every point of a run
 
--- Every cell is in form: cell 0 as the head, every other as an announcement.
-abbrev pub CellsInForm : {file : List ℕ} {n q : ℕ} {s : Store} → Opening file n q s → Type 0
-CellsInForm {n = n} o = (xs : List Call) (k : ℕ) → k ≤ n → cellInForm (o .shape) n k (getD (shown o .cells xs) k 0) ≡ true
+-- The task's record after a list of calls.
+abbrev pub recordAfter : {file : List ℕ} {n q : ℕ} {s : Store} → Opening file n q s → List Call → ℕ → Task
+recordAfter {file} {s = s} o xs t = taskAt (runOf file xs s .row) t
+
+-- There are n + 1 cells, all in form, and n records, all in form.
+pub record PointInForm {file : List ℕ} {n q : ℕ} {s : Store} (o : Opening file n q s) (xs : List Call) : Type 0 where
+  pub cells-long : length (shown o .cells xs) ≡ n + 1
+  pub cells : cellsInForm (o .shape .states) (o .shape .operations) n (shown o .cells xs) ≡ true
+  pub row-long : length (runOf file xs s .row) ≡ n
+  pub row : (i : ℕ) → i < n → RecordFits (o .shape) n (1000 * (n * n * n)) (recordAfter o xs i)
+
+-- At every point: after the opening, and after each call, a refused one too.
+abbrev pub InFormThroughout : {file : List ℕ} {n q : ℕ} {s : Store} → Opening file n q s → Type 0
+InFormThroughout o = (xs : List Call) → PointInForm o xs
 
 -- In a run begin and step are refused with 7, 8, 9 and 10 alone: 4, 11 and 12 never occur.
 abbrev pub Refusals : {file : List ℕ} {n q : ℕ} {s : Store} → Opening file n q s → Type 0
 Refusals o = (xs : List Call) (x : Call) (k : ℕ) → shown o .answer xs x ≡ Refused k → (7 ≤ k) × (k ≤ 10)
 
 -- ---- How an operation ends
-
--- The task's record after a list of calls.
-abbrev pub recordAfter : {file : List ℕ} {n q : ℕ} {s : Store} → Opening file n q s → List Call → ℕ → Task
-recordAfter {file} {s = s} o xs t = taskAt (runOf file xs s .row) t
 
 -- The last step of an operation x that task t has pending after the calls xs.
 pub record LastStep {file : List ℕ} {n q : ℕ} {s : Store} (o : Opening file n q s) (xs : List Call) (t x : ℕ) : Type 0 where

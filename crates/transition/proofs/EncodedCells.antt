@@ -12,7 +12,7 @@ use lib.ListN.{getD}
 use Rattle.laws.specs.Decision.{decided}
 use Rattle.laws.proofs.Bits.{bit-below}
 use Rattle.cells.specs.Field.{pack, Fit}
-use Rattle.cells.specs.Form.{headInForm, announcementInForm}
+use Rattle.cells.specs.Form.{holderBound, headInForm, announcementInForm}
 use Rattle.cells.specs.Layout.{marksWidth, marks, value, hasMark, addMark, removeMark, headWidths, headValues, headWord, headOf, announcementWidths, announcementValues, announcementWord, announcementOf, kindIn}
 use Rattle.cells.specs.Marks.{has, add, remove}
 use Rattle.cells.proofs.MarkLaws.{SetsBit, adds, removes, set-below, has-low}
@@ -184,7 +184,7 @@ module _ (file : List ℕ) (shape : Shape) (table : ObjectTable file shape) (n :
       where
         both : (v : HeadValue) → HeadValueFormed object n v → (ltb (h .marks) (2 ^ n) && headInRange (shape .states) n (headIn v)) ≡ true
         both (Free q) f = rw (lt-ltb (h .marks) (2 ^ n) (ranged .marks), f)
-        both (Held q j r) f = rw (lt-ltb (h .marks) (2 ^ n) (ranged .marks), f .0, lt-ltb j marksWidth (omega (arith, f .1)))
+        both (Held q j r) f = rw (lt-ltb (h .marks) (2 ^ n) (ranged .marks), f .0, lt-ltb j (holderBound n) (omega (arith, f .1, most)))
 
   -- An announcement in range.
   module _ (a : Cell Content) (ranged : AnnouncementFormed object n a) where

@@ -4,3 +4,4 @@ pub mod Payloads
 pub mod Plans
 pub mod Nexts
 pub mod Lawful
+pub mod NextForms

@@ -40,19 +40,22 @@ fn pending(phase: u32) -> Task {
     }
 }
 
+fn saved(phase: u32, head: u64, announcement: u64) -> Task {
+    Task {
+        head,
+        announcement,
+        ..pending(phase)
+    }
+}
+
 /// Records in form and out of form, for one task and more.
 fn records() -> Vec<Task> {
-    [plain_records(), records_that_moved()].concat()
+    [plain_records(), records_that_moved(), records_held()].concat()
 }
 
 /// Records with the moved bit of a saved word, in LinkHead, HandOver and Apply of a set, or of the payload, in Retract. An Apply
 /// that finds a holder in its saved head is in form, though no run leads to it.
 fn records_that_moved() -> Vec<Task> {
-    let saved = |phase, head, announcement| Task {
-        head,
-        announcement,
-        ..pending(phase)
-    };
     let leaving = |payload| Task {
         payload,
         ..pending(12)
@@ -71,6 +74,11 @@ fn records_that_moved() -> Vec<Task> {
         leaving(0x1_0001),
         leaving(0xfffe_0001),
     ]
+}
+
+/// Records in LinkHead whose saved head has a holder that is above one task and within two, or above all.
+fn records_held() -> Vec<Task> {
+    [0x200_0000, 0x900_0000].map(|head| saved(5, head, 0)).into()
 }
 
 fn plain_records() -> Vec<Task> {
@@ -111,7 +119,7 @@ fn plain_records() -> Vec<Task> {
 const NUMBERS_OF_TASKS: [usize; 5] = [0, 1, 2, 8, 9];
 
 /// Words in form and out of form, as a head and as an announcement.
-const WORDS: [u64; 15] = [
+const WORDS: [u64; 17] = [
     0,
     0x100,
     0x300,
@@ -121,7 +129,9 @@ const WORDS: [u64; 15] = [
     0x100_0200,
     0x100_0300,
     0x1ff_0200,
+    0x200_0000,
     0x200_0200,
+    0x900_0000,
     0x1000_0000,
     0x1100_0000,
     0x1101_0000,

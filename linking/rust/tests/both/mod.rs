@@ -6,7 +6,7 @@ use reference::record::Record;
 use reference::{file_calls, refusal};
 
 /// Which calls begin and step are made by: those that are lent the row, or those that are lent the task's record alone.
-#[derive(Clone, Copy)]
+#[derive(Clone, Copy, Debug)]
 pub enum By {
     Row,
     Record,

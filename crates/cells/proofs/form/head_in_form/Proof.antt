@@ -1,4 +1,6 @@
 use mathlib.Core.Path.{_≡_, sym, _∙_}
+use mathlib.Core.Bool.{false}
+use Prim.Native.Nat.{_<_}
 use native.Mathlib.Omega.{arith}
 use borrow.Author.Tests.{lt-ltb, le-ltb, le-leb, lt-leb, eq-eqb, ne-eqb, not-true, not-false}
 use lib.ListN.{getD}
@@ -38,32 +40,45 @@ returns-3 c =
     let q = getD (unpackAt 1 headWidths (a .word)) 1 0 in
     rw (within (c .before)) (simp (le-ltb q (a .states) (omega arith)))
 
-returns-4 : tie.Need-returns-4
+-- The holder is past the bound, by either test.
+past : (c : tie.Else3) → let a = c .before .before .before .before .args in holderBound (a .tasks) < getD (unpackAt 1 headWidths (a .word)) 3 0 → headInForm (a .states) (a .tasks) (a .word) ≡ false
 unfolding headFieldsInForm unpackAt
-returns-4 c =
-    let a = c .before .before .before .before .before .args in
+past c h =
+    let a = c .before .before .before .before .args in
+    let q = getD (unpackAt 1 headWidths (a .word)) 1 0 in
+    rw (within (c .before)) (simp (lt-ltb q (a .states) (omega arith), lt-leb _ (holderBound (a .tasks)) h))
+
+returns-4 : tie.Need-returns-4
+unfolding unpackAt
+returns-4 c = sym (past (c .before) (omega arith))
+
+returns-5 : tie.Need-returns-5
+unfolding unpackAt
+returns-5 c = sym (past (c .before .before) (omega arith))
+
+-- The holder is within the bound: response and moved decide.
+held : (c : tie.Else5) → let a = c .before .before .before .before .before .before .args in let vs = unpackAt 1 headWidths (a .word) in headInForm (a .states) (a .tasks) (a .word) ≡ outcomeInForm (getD vs 3 0) (getD vs 2 0) (getD vs 4 0)
+unfolding headFieldsInForm unpackAt
+held c =
+    let a = c .before .before .before .before .before .before .args in
     let q = getD (unpackAt 1 headWidths (a .word)) 1 0 in
     let h = getD (unpackAt 1 headWidths (a .word)) 3 0 in
-    rw (within (c .before .before)) (simp (lt-ltb q (a .states) (omega arith), lt-leb h (holderBound (a .tasks)) (omega arith)))
+    rw (within (c .before .before .before)) (simp (lt-ltb q (a .states) (omega arith), le-leb h (holderBound (a .tasks)) (omega arith)))
 
 fits-unmoved-requires : tie.Need-fits-unmoved-requires
 fits-unmoved-requires c κs = search needs
 
-returns-5 : tie.Need-returns-5
-unfolding headFieldsInForm outcomeInForm unpackAt
-returns-5 c =
-    let a = c .before .before .before .before .before .before .before .args in
-    let q = getD (unpackAt 1 headWidths (a .word)) 1 0 in
-    let h = getD (unpackAt 1 headWidths (a .word)) 3 0 in
-    rw (c .fits-unmoved .ensures, within (c .before .before .before .before)) (simp (lt-ltb q (a .states) (omega arith), le-leb h (holderBound (a .tasks)) (omega arith), eq-eqb h 0 (omega arith)))
-
 returns-6 : tie.Need-returns-6
-unfolding headFieldsInForm outcomeInForm unpackAt
+unfolding outcomeInForm unpackAt
 returns-6 c =
-    let a = c .before .before .before .before .before .before .args in
-    let q = getD (unpackAt 1 headWidths (a .word)) 1 0 in
-    let h = getD (unpackAt 1 headWidths (a .word)) 3 0 in
-    rw (within (c .before .before .before)) (simp (lt-ltb q (a .states) (omega arith), le-leb h (holderBound (a .tasks)) (omega arith), ne-eqb h 0 (c .if5 .left)))
+    let h = getD (unpackAt 1 headWidths (c .before .before .before .before .before .before .before .before .args .word)) 3 0 in
+    rw (c .fits-unmoved .ensures, held (c .before .before)) (simp (eq-eqb h 0 (omega arith)))
+
+returns-7 : tie.Need-returns-7
+unfolding outcomeInForm unpackAt
+returns-7 c =
+    let h = getD (unpackAt 1 headWidths (c .before .before .before .before .before .before .before .args .word)) 3 0 in
+    rw (held (c .before)) (simp (ne-eqb h 0 (c .if6 .left)))
 
 pub head-in-form-spec : {M : Type 1} → statement M
 head-in-form-spec =
@@ -74,6 +89,7 @@ head-in-form-spec =
     returns-2
     returns-3
     returns-4
-    fits-unmoved-requires
     returns-5
-    returns-6)
+    fits-unmoved-requires
+    returns-6
+    returns-7)

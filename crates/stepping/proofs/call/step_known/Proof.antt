@@ -71,7 +71,7 @@ step-from-requires : tie.Need-step-from-requires
 step-from-requires c κs =
     let k = c .before .before .before .before in
     let s = k .before .before .before .before .before in
-    let r = ready (s .args .file .now) (s .args .shape) (s .args .tasks) (s .args .ceiling) (length (s .args .cells .now)) (s .args .task) (s .args .own) (s .args .phase) (s .pre .2) (s .pre .4) (s .pre .3) (known c) in
+    let r = ready (s .args .file .now) (s .args .shape) (s .args .tasks) (s .args .ceiling) (length (s .args .cells .now)) (s .args .task) (s .args .own) (s .args .phase) (s .pre .2) (s .pre .4) (s .pre .3) (k .before .if1 .left) (known c) in
     (s .pre .0, s .pre .1, s .pre .3, r .priority, r .steps, r .cell, k .before .if1 .left)
 
 same-length : tie.Need-same-length

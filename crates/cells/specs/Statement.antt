@@ -1,0 +1,47 @@
+-- What is proved of the form of a head, with s states and n tasks. Fields are read by place values, which are written as numbers:
+-- bit 8 has place value 256, bit 16 65536, bit 24 16777216, bit 28 268435456, and bit 29 536870912.
+use mathlib.Core.Path.{_≡_}
+use mathlib.Core.Bool.{Bool, true, false, _&&_}
+use mathlib.Core.Logic.{_↔_}
+use Prim.Native.Nat.{ℕ, _+_, _*_, _/_, _%_, _^_, _<_, _≤_}
+use lib.Dec.{ltb, leb}
+use Rattle.cells.specs.Form.{headInForm}
+use Rattle.cells.specs.Layout.{headOf}
+use Rattle.cells.specs.declared.head.Head.the-variants.{Held}
+
+-- The number in bits 24 to 27.
+abbrev pub holderIn : ℕ → ℕ
+holderIn w = w / 16777216 % 16
+
+-- The rows of docs/FORMATS.md, "The cells", that a head has to keep.
+pub record HeadPoints (s n w : ℕ) : Type 0 where
+  -- Bits that aren't named are 0.
+  pub named : w < 536870912
+  -- Marks of tasks from n up are 0.
+  pub marked : w % 256 < 2 ^ n
+  pub state : w / 256 % 256 < s
+  -- The holder is 0 for none, else the number of one of the n tasks plus 1, and at most 8.
+  pub holder : holderIn w ≤ n
+  pub most : holderIn w ≤ 8
+  -- With holder 0 response and moved are 0.
+  pub free : holderIn w ≡ 0 → (w / 65536 % 256 ≡ 0) × (w / 268435456 % 2 ≡ 0)
+
+-- A head is in form exactly if it keeps each of them.
+abbrev pub PointByPoint : (s n w : ℕ) → Type 0
+PointByPoint s n w = (headInForm s n w ≡ true) ↔ HeadPoints s n w
+
+-- The holder that a head in form names is a task of this controller.
+abbrev pub HolderIsTask : (s n w : ℕ) → Type 0
+HolderIsTask s n w = headInForm s n w ≡ true → (q j r : ℕ) (moved : Bool) → headOf w ≡ Held q j r moved → j < n
+
+-- With n at most 8, the form is the one with 8 tasks, and marks and holder of tasks below n; nothing more.
+abbrev pub WithinEight : (s n w : ℕ) → Type 0
+WithinEight s n w = n ≤ 8 → headInForm s n w ≡ (ltb (w % 256) (2 ^ n) && (headInForm s 8 w && leb (holderIn w) n))
+
+-- A head in form for n tasks is in form for more.
+abbrev pub ForMore : (s n k w : ℕ) → Type 0
+ForMore s n k w = n ≤ k → headInForm s n w ≡ true → headInForm s k w ≡ true
+
+-- The bound is sharp: a head with holder n + 1, state 0 and nothing else is in form for n + 1 tasks, and not for n.
+abbrev pub Sharp : (s n : ℕ) → Type 0
+Sharp s n = 1 ≤ s → n ≤ 7 → let w = (n + 1) * 16777216 in (headInForm s (n + 1) w ≡ true) × (headInForm s n w ≡ false)
