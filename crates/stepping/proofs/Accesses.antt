@@ -66,18 +66,21 @@ module _ (file : List ℕ) (shape : Shape) (table : ObjectTable file shape) (n :
     pub encoded-empty : (j : ℕ) → j < n → (kindIn (getD (encodeCells n m) (j + 1) 0) ≡ 0) ↔ (content m j ≡ Empty)
     encoded-empty j below = rw (cell-at n m j below) (announcement-empty file shape table n most (m .announcement j) (ranged .announcement j))
 
+    head-touched : cellInForm shape n 0 (encodeHead (m .head)) ≡ true
+    unfolding cellInForm
+    head-touched = head-in-form file shape table n most (m .head) (ranged .head)
+
     announcement-touched : (j : ℕ) → j < n → cellInForm shape n (j + 1) (getD (encodeCells n m) (j + 1) 0) ≡ true
     unfolding cellInForm
     announcement-touched j below = rw (ne-eqb (j + 1) 0 (λ z. omega arith), cell-at n m j below) (announcement-in-form file shape table n most (m .announcement j) (ranged .announcement j))
 
     -- The touched cell is in form.
     pub touched-in-form : (a : machine.Access) → AccessFormed a → cellInForm shape n (touched (encodeAccess a)) (getD (encodeCells n m) (touched (encodeAccess a)) 0) ≡ true
-    unfolding cellInForm
     touched-in-form NoAccess f = absurd f
-    touched-in-form ReadHead f = head-in-form file shape table n most (m .head) (ranged .head)
+    touched-in-form ReadHead f = head-touched
     touched-in-form (ReadAnnouncement j) f = announcement-touched j f
     touched-in-form (WriteAnnouncement j a) f = announcement-touched j f
-    touched-in-form (SwapHead h g) f = head-in-form file shape table n most (m .head) (ranged .head)
+    touched-in-form (SwapHead h g) f = head-touched
     touched-in-form (SwapAnnouncement j a c) f = announcement-touched j (f .0)
 
     -- So is every cell.
