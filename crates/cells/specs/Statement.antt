@@ -1,5 +1,4 @@
--- What is proved of the form of a head, with s states and n tasks. Fields are read by place values, which are written as numbers:
--- bit 8 has place value 256, bit 16 65536, bit 24 16777216, bit 28 268435456, and bit 29 536870912.
+-- docs/FORMATS.md, "The cells": what is proved of the form of a head, with s states and n tasks.
 use mathlib.Core.Path.{_≡_}
 use mathlib.Core.Bool.{Bool, true, false, _&&_}
 use mathlib.Core.Logic.{_↔_}
@@ -8,6 +7,9 @@ use lib.Dec.{ltb, leb}
 use Rattle.cells.specs.Form.{headInForm}
 use Rattle.cells.specs.Layout.{headOf}
 use Rattle.cells.specs.declared.head.Head.the-variants.{Held}
+
+-- The place values are written as numbers: 256 for bit 8, 65536 for bit 16, 16777216 for bit 24, 268435456 for bit 28, and 536870912
+-- for bit 29.
 
 -- The number in bits 24 to 27.
 abbrev pub holderIn : ℕ → ℕ
