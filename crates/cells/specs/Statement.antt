@@ -1,10 +1,10 @@
--- docs/FORMATS.md, "The cells": what is proved of the form of a head, with s states and n tasks.
+-- docs/FORMATS.md, "The cells": what is proved of the form of a head, with s states and n tasks, and when a cell is in form.
 use mathlib.Core.Path.{_≡_}
 use mathlib.Core.Bool.{Bool, true, false, _&&_}
 use mathlib.Core.Logic.{_↔_}
 use Prim.Native.Nat.{ℕ, _+_, _*_, _/_, _%_, _^_, _<_, _≤_}
 use lib.Dec.{ltb, leb}
-use Rattle.cells.specs.Form.{headInForm}
+use Rattle.cells.specs.Form.{headInForm, announcementInForm}
 use Rattle.cells.specs.Layout.{headOf}
 use Rattle.cells.specs.declared.head.Head.the-variants.{Held}
 
@@ -47,3 +47,8 @@ ForMore s n k w = n ≤ k → headInForm s n w ≡ true → headInForm s k w ≡
 -- The bound is sharp: a head with holder n + 1, state 0 and nothing else is in form for n + 1 tasks, and not for n.
 abbrev pub Sharp : (s n : ℕ) → Type 0
 Sharp s n = 1 ≤ s → n ≤ 7 → let w = (n + 1) * 16777216 in (headInForm s (n + 1) w ≡ true) × (headInForm s n w ≡ false)
+
+-- The word of a cell is in form: in cell 0 as a head, in cell j + 1 as an announcement, with s states, m operations and n tasks.
+pub record CellFits (s m n cell w : ℕ) : Type 0 where
+  pub head : cell ≡ 0 → headInForm s n w ≡ true
+  pub announcement : (j : ℕ) → cell ≡ j + 1 → announcementInForm m n w ≡ true

@@ -5,8 +5,8 @@ ghost use mathlib.Core.Path.{_≡_};
 ghost use lib.Dec.{eqb};
 ghost use Rattle.cells.specs.Form.{headInForm, announcementInForm, marksInForm};
 
-// The largest number that a holder field may have.
-const HOLDER_BOUND: u64 = 8;
+// The largest number that a holder field may have, however many tasks there are.
+const GREATEST_HOLDER: u64 = 8;
 
 // Whether a word has marks of tasks below `tasks` alone.
 fn marks_in_form(word: u64, tasks: usize) -> bool
@@ -28,7 +28,7 @@ fn fits_unmoved(fits: bool, moved: u64) -> bool
     false
 }
 
-// Whether a head is in form, for a table with `states` states.
+// Whether a head is in form, for a table with `states` states and a run of `tasks` tasks.
 pub fn head_in_form(word: u64, states: u32, tasks: usize) -> bool
     ensures { λ r. ⌜ r ≡ headInForm states tasks word ⌝ }
 {
@@ -45,7 +45,7 @@ pub fn head_in_form(word: u64, states: u32, tasks: usize) -> bool
     if state >= states as u64 {
         return false;
     }
-    if holder > HOLDER_BOUND {
+    if holder > GREATEST_HOLDER {
         return false;
     }
     if holder > tasks as u64 {
@@ -57,7 +57,7 @@ pub fn head_in_form(word: u64, states: u32, tasks: usize) -> bool
     true
 }
 
-// Whether an announcement is in form, for a table with `operations` operations.
+// Whether an announcement is in form, for a table with `operations` operations and a run of `tasks` tasks.
 pub fn announcement_in_form(word: u64, operations: u32, tasks: usize) -> bool
     ensures { λ r. ⌜ r ≡ announcementInForm operations tasks word ⌝ }
 {

@@ -1,10 +1,11 @@
 -- What a record in form has, and when it is refused with 11.
 use mathlib.Core.Path.{_≡_, refl, ap, sym, _∙_}
-use mathlib.Core.Bool.{Bool, true, false, _&&_, and-eq-true-iff}
-use mathlib.Core.Logic.{_≢_}
-use Prim.Native.Nat.{ℕ, _<_}
-use borrow.Author.Tests.{ne-eqb, ltb-true}
-use lib.Dec.{ltb}
+use mathlib.Core.Bool.{Bool, true, false, _&&_, _||_, and-eq-true-iff}
+use mathlib.Core.Logic.{_↔_, _≢_}
+use Prim.Native.Nat.{ℕ, _%_, _<_, _≤_}
+use borrow.Author.Tests.{ne-eqb, ltb-true, ltb-false, lt-ltb, le-ltb, leb-true, le-leb}
+use lib.Dec.{ltb, leb}
+use Rattle.laws.proofs.Choice.{choice-by}
 use Rattle.laws.proofs.Clash.{never}
 use Rattle.refusal.specs.declared.Refusal.{Refusal}
 use Rattle.refusal.specs.declared.Refusal.the-variants as cause
@@ -15,8 +16,9 @@ use Rattle.records.specs.declared.phase.Phase.{Phase}
 use Rattle.records.specs.declared.phase.PhaseRead.{PhaseRead}
 use Rattle.records.specs.declared.phase.PhaseRead.the-variants.{Known, Refused}
 use Rattle.records.specs.Phase.{phaseOf}
-use Rattle.records.specs.Record.{namesTask, savedPayloadInForm, numbersInForm, wordsInForm, pendingInForm, recordInForm, readInForm, readRecord}
-use Rattle.records.proofs.Phases.{refused-read}
+use Rattle.records.specs.Record.{namesTask, savedPayloadInForm, numbersInForm, wordsInForm, pendingInForm, recordInForm, readInForm, readRecord, RecordFits}
+use Rattle.records.specs.Statement.{PendingPoints, PendingByPoint}
+use Rattle.records.proofs.Phases.{WorksBelow, works, refused-read}
 
 -- A record is read as a phase only if it is in form and its number is that phase's.
 parts : (fits : Bool) (read : PhaseRead) (f : Phase) → readInForm fits read ≡ Known f → (fits ≡ true) × (read ≡ Known f)
@@ -30,15 +32,23 @@ record-cause true (Known g) only reason e = never cc
 record-cause false (Known g) only reason e = cc
 record-cause fits (Refused c) only reason e = let same : c ≡ reason = cc in sym same ∙ only c refl
 
--- What a pending record in form has.
-pub record Pending (shape : Shape) (n c : ℕ) (t : Task) : Type 0 where
-  pub names : namesTask n (t .phase) ≡ true
-  pub operation : t .operation < shape .operations
-  pub priority : t .priority < n
-  pub steps : t .steps < c
-  pub payload : savedPayloadInForm (shape .operations) t ≡ true
-  pub head : headInForm (shape .states) n (t .head) ≡ true
-  pub announcement : announcementInForm (shape .operations) n (t .announcement) ≡ true
+-- The tests of the named task and of the payload, and what they say.
+names-point : (n k : ℕ) → (namesTask n k ≡ true) ↔ (16 ≤ k → k % 8 < n)
+unfolding namesTask
+names-point n k = (λ e low. ltb-true (k % 8) n (rw (le-ltb k 16 low) at e), λ f. by f (ltb k 16) refl)
+  where
+    by : (16 ≤ k → k % 8 < n) → (b : Bool) → ltb k 16 ≡ b → b || ltb (k % 8) n ≡ true
+    by f true e = refl
+    by f false e = lt-ltb (k % 8) n (f (ltb-false k 16 e))
+
+payload-point : (m : ℕ) (t : Task) → (savedPayloadInForm m t ≡ true) ↔ (16 ≤ t .phase → t .phase ≤ 31 → t .payload < m)
+unfolding savedPayloadInForm
+payload-point m t = (
+  λ e low high. ltb-true (t .payload) m (rw (le-leb 16 (t .phase) low, le-leb (t .phase) 31 high) at e),
+  λ f. choice-by (λ (b : Bool). b ≡ true) (leb 16 (t .phase) && leb (t .phase) 31)
+      (λ e. let both = and-eq-true-iff (leb 16 (t .phase)) (leb (t .phase) 31) .0 e in lt-ltb (t .payload) m (f (leb-true 16 (t .phase) (both .0)) (leb-true (t .phase) 31 (both .1))))
+      (λ e. refl),
+)
 
 module _ (shape : Shape) (n c : ℕ) (t : Task) where
   pub read-parts : (f : Phase) → readRecord shape n c t ≡ Known f → (recordInForm shape n c t ≡ true) × (phaseOf (t .phase) ≡ Known f)
@@ -49,10 +59,10 @@ module _ (shape : Shape) (n c : ℕ) (t : Task) where
   unfolding readRecord
   cause-read = record-cause (recordInForm shape n c t) (phaseOf (t .phase)) (refused-read (t .phase))
 
-  -- The pending form asks for each of its parts.
-  pub pending-parts : pendingInForm shape n c t ≡ true → Pending shape n c t
+  -- The pending form asks for its points, and for nothing else.
+  pending-points : pendingInForm shape n c t ≡ true → PendingPoints shape n c t
   unfolding pendingInForm numbersInForm wordsInForm
-  pending-parts e =
+  pending-points e =
       let a = namesTask n (t .phase) in
       let b = a && ltb (t .operation) (shape .operations) in
       let d = b && ltb (t .priority) n in
@@ -62,30 +72,38 @@ module _ (shape : Shape) (n c : ℕ) (t : Task) where
       let numbers = and-eq-true-iff f (savedPayloadInForm (shape .operations) t) .0 (all .0) in
       let counted = and-eq-true-iff d (ltb (t .steps) c) .0 (numbers .0) in
       let placed = and-eq-true-iff b (ltb (t .priority) n) .0 (counted .0) in
-      let named = and-eq-true-iff a (ltb (t .operation) (shape .operations)) .0 (placed .0) in
+      let known = and-eq-true-iff a (ltb (t .operation) (shape .operations)) .0 (placed .0) in
       record {
-        names = named .0;
-        operation = ltb-true (t .operation) (shape .operations) (named .1);
+        named = names-point n (t .phase) .0 (known .0);
+        operation = ltb-true (t .operation) (shape .operations) (known .1);
         priority = ltb-true (t .priority) n (placed .1);
         steps = ltb-true (t .steps) c (counted .1);
-        payload = numbers .1;
+        payload = payload-point (shape .operations) t .0 (numbers .1);
         head = words .0;
         announcement = words .1;
       }
 
-  module _ (pending : t .phase ≢ 0) where
-    form-pending : recordInForm shape n c t ≡ pendingInForm shape n c t
-    unfolding recordInForm
-    form-pending = rw (ne-eqb (t .phase) 0 pending)
+  points-pending : PendingPoints shape n c t → pendingInForm shape n c t ≡ true
+  unfolding pendingInForm numbersInForm wordsInForm
+  points-pending p =
+      simp (names-point n (t .phase) .1 (p .named), lt-ltb _ _ (p .operation), lt-ltb _ _ (p .priority), lt-ltb _ _ (p .steps), payload-point (shape .operations) t .1 (p .payload), p .head, p .announcement)
 
-    -- One that is read has its parts.
-    pub read-pending : (f : Phase) → readRecord shape n c t ≡ Known f → Pending shape n c t
-    read-pending f e = pending-parts (rw form-pending at (read-parts f e .0))
+  pub pending-by-point : PendingByPoint shape n c t
+  unfolding recordInForm
+  pending-by-point pending = rw (ne-eqb (t .phase) 0 pending) (pending-points, points-pending)
 
-    -- One with a saved head out of form is refused with 11.
-    pub head-refused : (headInForm (shape .states) n (t .head) ≡ true → ⊥) → readRecord shape n c t ≡ Refused cause.Record
-    head-refused bad = by (readRecord shape n c t) refl
-      where
-        by : (read : PhaseRead) → readRecord shape n c t ≡ read → read ≡ Refused cause.Record
-        by (Known f) e = absurd (bad (read-pending f e .head))
-        by (Refused reason) e = ap Refused (cause-read reason e)
+  -- A pending record that is read keeps its points, and its phase works for a task below n.
+  module _ (pending : t .phase ≢ 0) (f : Phase) (e : readRecord shape n c t ≡ Known f) where
+    pub read-points : PendingPoints shape n c t
+    read-points = pending-by-point pending .0 (read-parts f e .0)
+
+    pub read-works : WorksBelow n f
+    read-works = works n (t .phase) (names-point n (t .phase) .1 (read-points .named)) f (read-parts f e .1)
+
+  -- A record that isn't in form is refused with 11, and no other is.
+  pub record-refused : (RecordFits shape n c t → ⊥) ↔ (readRecord shape n c t ≡ Refused cause.Record)
+  record-refused = (λ bad. by bad (readRecord shape n c t) refl, λ e (f, d). never (cc (sym e ∙ d)))
+    where
+      by : (RecordFits shape n c t → ⊥) → (read : PhaseRead) → readRecord shape n c t ≡ read → readRecord shape n c t ≡ Refused cause.Record
+      by bad (Known f) e = absurd (bad (f, e))
+      by bad (Refused reason) e = e ∙ ap Refused (cause-read reason e)

@@ -1,2 +1,3 @@
 pub mod Phase
 pub mod Record
+pub mod Statement

@@ -8,6 +8,8 @@ use native.Mathlib.Omega.{arith}
 use Rattle.laws.proofs.Tabulate.{tabulate-length}
 use Rattle.laws.proofs.Clash.{clash, never}
 use Rattle.cells.specs.Image as words
+use Rattle.table.specs.declared.Shape.{Shape}
+use Rattle.table.proofs.Accepted.{accepted-fitting}
 use Rattle.machine.specs.Object.{Object}
 use Rattle.machine.specs.Lawful.{Opens}
 use Rattle.machine.specs.Memory.{Empty, image}
@@ -33,8 +35,8 @@ use Rattle.stepping.specs.Call.{taskAt}
 use Rattle.stepping.specs.Access.{accessOf}
 use Rattle.stepping.specs.Runs.{Store, CallOutcome, serveOf, runOf, historyOf}
 use Rattle.stepping.specs.Opening.{Opening, objectIn, shown}
-use Rattle.stepping.specs.Statement.{recordAfter, PointInForm, EmptyAt, Emptied}
-use Rattle.stepping.specs.Encoding.{encodeCells, encodeConfig}
+use Rattle.stepping.specs.Statement.{FitsTable, recordAfter, InFormThroughout, EmptyAt, Emptied}
+use Rattle.stepping.specs.Encoding.{encodeCells, encodeRow, encodeConfig}
 use Rattle.stepping.proofs.Accesses.{cells-length, encoded-empty, encoded-in-form}
 use Rattle.stepping.proofs.Simulation.{ceiling, InRange, record-fits, serve-simulates, run-simulates, history-simulates, access-simulates}
 use Rattle.stepping.proofs.Starts.{start-cells, start-row}
@@ -99,15 +101,6 @@ module _ {file : List ℕ} {n q : ℕ} {s : Store} (o : Opening file n q s) wher
     -- A begin or a step of a run is refused with 7 to 10 alone: 4, 11 and 12 never occur.
     pub refused-opened : (x : Call) (k : ℕ) → serveOf file x (runOf file xs s) .answer ≡ Refused k → (7 ≤ k) × (k ≤ 10)
     refused-opened x k e = refuses (serving (objectIn o) n (machineRun xs) x) k (sym (answer-opened x) ∙ e)
-
-    -- Cells and records are in form.
-    pub point-in-form : PointInForm o xs
-    point-in-form = record {
-      cells-long = rw run-opened (cells-length n (machineRun xs .memory));
-      cells = rw run-opened (encoded-in-form file (o .shape) (o .table) n (o .few) (machineRun xs .memory) (in-range xs .formed .memory));
-      row-long = rw run-opened (tabulate-length n (λ i. encodeTask (machineRun xs .task i)));
-      row = λ i below. subst (λ (z : Store). RecordFits (o .shape) n (ceiling n) (taskAt (z .row) i)) (sym run-opened) (record-fits file (o .shape) (o .table) n (o .some) (o .few) (machineRun xs) (in-range xs) i below);
-    }
 
     -- The announcements in the cells are those of the machine.
     announcement-opened : (t : ℕ) → t < n → EmptyAt (runOf file xs s .cells) t ↔ (content (machineRun xs .memory) t ≡ Empty)
@@ -178,3 +171,17 @@ module _ {file : List ℕ} {n q : ℕ} {s : Store} (o : Opening file n q s) wher
         changes = e .changes;
         ended = sym (answer-opened xs x) ∙ e .ended;
       }
+
+  -- At every point cells and records are in form.
+  pub points-in-form : InFormThroughout o
+  points-in-form xs = record {
+    cells-long = rw (run-opened xs) (cells-length n (machineRun xs .memory));
+    cells = rw (run-opened xs) (encoded-in-form file (o .shape) (o .table) n (o .few) (machineRun xs .memory) (in-range xs .formed .memory));
+    row-long = rw (run-opened xs) (tabulate-length n (λ i. encodeTask (machineRun xs .task i)));
+    row = λ i below. subst (λ (z : Store). FitsTable file n (taskAt (z .row) i)) (sym (run-opened xs)) (fits xs i below);
+  }
+    where
+      fits : (xs : List Call) (i : ℕ) → i < n → FitsTable file n (taskAt (encodeRow n (machineRun xs .task)) i)
+      fits xs i below =
+          subst (λ (shape : Shape). RecordFits shape n (ceiling n) (taskAt (encodeRow n (machineRun xs .task)) i)) (accepted-fitting file (o .shape) (o .table .accepted) .shape-is)
+          (record-fits file (o .shape) (o .table) n (o .some) (o .few) (machineRun xs) (in-range xs) i below)

@@ -1,6 +1,7 @@
 pub mod Admission
 pub mod Passed
 pub mod Forms
+pub mod Judged
 pub mod Ready
 pub mod Parts
 pub mod Refused

@@ -13,8 +13,8 @@ use Rattle.records.specs.declared.phase.PhaseRead.the-variants.{Known}
 use Rattle.records.specs.Record.{readRecord}
 use Rattle.transition.specs.Transition.{planOf}
 use Rattle.stepping.specs.Step.{touched}
-use Rattle.records.proofs.Forms.{read-parts, read-pending}
-use Rattle.records.proofs.Phases.{WorksBelow, works}
+use Rattle.records.proofs.Forms.{read-points, read-works}
+use Rattle.records.proofs.Phases.{WorksBelow}
 
 -- The access of a task below n, for a phase that works for a task below n, touches one of n + 1 cells.
 module _ (file : List ℕ) (shape : Shape) (n i : ℕ) (t : Task) (own : i < n) (first : t .priority < n) where
@@ -53,6 +53,6 @@ pub record Ready (file : List ℕ) (shape : Shape) (n k i : ℕ) (t : Task) (f :
 
 pub ready : (file : List ℕ) (shape : Shape) (n c k i : ℕ) (t : Task) (f : Phase) → c ≤ greatestCeiling → k ≡ n + 1 → i < n → t .phase ≢ 0 → readRecord shape n c t ≡ Known f → Ready file shape n k i t f
 ready file shape n c k i t f low count own pending e =
-    let p = read-pending shape n c t pending f e in
-    let cell : touched (planOf file shape i (t .priority) t f) < n + 1 = touched-below file shape n i t own (p .priority) f (works n (t .phase) (p .names) f (read-parts shape n c t f e .1)) in
+    let p = read-points shape n c t pending f e in
+    let cell : touched (planOf file shape i (t .priority) t f) < n + 1 = touched-below file shape n i t own (p .priority) f (read-works shape n c t pending f e) in
     record { priority = p .priority; steps = omega (arith, p .steps); cell = omega arith }

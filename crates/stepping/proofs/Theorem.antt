@@ -22,11 +22,12 @@ use Rattle.stepping.specs.Call.{StartOutcome}
 use Rattle.stepping.specs.Runs.{Store}
 use Rattle.stepping.specs.Opening.{Opening, objectIn}
 use Rattle.stepping.specs.Lent.{Places}
-use Rattle.stepping.specs.Statement.{MakesAccess, FollowsResult, Local, OneCell, BeginByRecord, StepByRecord, StartUnchanged, BeginUnchanged, StepUnchanged, BeginRecordUnchanged, StepRecordUnchanged, HeadsInForm, KeepsForm, HolderAbove, SavedHolderAbove, BeginHolderAbove, Startable, StartOpens, Demands, SharperDemands, Independent, Answered, Carried, InFormThroughout, Refusals, Endings, Emptied, Between, OpensNext}
+use Rattle.stepping.specs.Statement.{MakesAccess, FollowsResult, Local, OneCell, BeginByRecord, StepByRecord, StartUnchanged, BeginUnchanged, StepUnchanged, BeginRecordUnchanged, StepRecordUnchanged, RecordJudged, BeginRecordJudged, CellJudged, HolderAbove, SavedHolderAbove, BeginHolderAbove, HeadsInForm, KeepsForm, Startable, StartOpens, Demands, SharperDemands, Independent, Answered, Carried, InFormThroughout, Refusals, Endings, Emptied, Between, OpensNext}
 use Rattle.stepping.proofs.Between.{between, opens-next}
-use Rattle.stepping.proofs.Demands.{opens, point-in-form, history-opened, answer-opened, access-opened, refused-opened, emptied}
+use Rattle.stepping.proofs.Demands.{opens, points-in-form, history-opened, answer-opened, access-opened, refused-opened, emptied}
 use Rattle.stepping.proofs.Outcomes.{answered, met, unmoved}
-use Rattle.stepping.proofs.Forms.{heads-in-form, keeps-form, holder-above, saved-holder-above, begin-holder-above}
+use Rattle.stepping.proofs.Forms.{heads-in-form, keeps-form}
+use Rattle.stepping.proofs.Judged.{record-judged, begin-record-judged, cell-judged, holder-above, saved-holder-above, begin-holder-above}
 use Rattle.stepping.proofs.Local.{step-local, step-elsewhere}
 use Rattle.stepping.proofs.AccessRule.{makes-access, follows-result}
 use Rattle.stepping.proofs.ByRecord.{begin-by-record, step-by-record}
@@ -76,16 +77,18 @@ step-record-unchanged file cells n i t c e =
     let same = refused-step file cells n i t c e in
     (ap (λ (out : TaskOutcome). out .cells) same, ap (λ (out : TaskOutcome). out .task) same)
 
--- ---- Heads and records out of form
+-- ---- Cells and records in form and out of form
 
--- A step that is not refused takes apart heads in form alone, and keeps its record in form.
-pub heads-formed : (file cells : List ℕ) (n i : ℕ) (t : Task) → HeadsInForm file cells n i t
-heads-formed = heads-in-form
+-- 11 and 12 come exactly for records and touched cells out of form; so they do for a holder above n.
+pub record-known : (file cells : List ℕ) (n i : ℕ) (t : Task) → RecordJudged file cells n i t
+record-known = record-judged
 
-pub form-kept : (file cells : List ℕ) (n i : ℕ) (t : Task) → KeepsForm file cells n i t
-form-kept = keeps-form
+pub begin-record-known : (file : List ℕ) (n i o : ℕ) (t : Task) → BeginRecordJudged file n i o t
+begin-record-known = begin-record-judged
 
--- A holder above n is refused: in the cell that is touched with 12, in a saved head with 11.
+pub cell-known : (file cells : List ℕ) (n i : ℕ) (t : Task) → CellJudged file cells n i t
+cell-known = cell-judged
+
 pub holder-refused : (file cells : List ℕ) (n i : ℕ) (t : Task) → HolderAbove file cells n i t
 holder-refused = holder-above
 
@@ -94,6 +97,13 @@ saved-holder-refused = saved-holder-above
 
 pub begin-holder-refused : (file : List ℕ) (n i o : ℕ) (t : Task) → BeginHolderAbove file n i o t
 begin-holder-refused = begin-holder-above
+
+-- A step that is not refused takes apart heads in form alone, and keeps its record in form.
+pub heads-formed : (file cells : List ℕ) (n i : ℕ) (t : Task) → HeadsInForm file cells n i t
+heads-formed = heads-in-form
+
+pub form-kept : (file cells : List ℕ) (n i : ℕ) (t : Task) → KeepsForm file cells n i t
+form-kept = keeps-form
 
 -- ---- Start
 
@@ -120,7 +130,7 @@ module _ {file : List ℕ} {n q : ℕ} {s : Store} (o : Opening file n q s) wher
   carried-known = met o (1000 * (n * n * n)) (bound-ceiling n (o .some)) .1
 
   pub in-form-throughout : InFormThroughout o
-  in-form-throughout = point-in-form o
+  in-form-throughout = points-in-form o
 
   pub refusals-known : Refusals o
   refusals-known xs x k e = refused-opened o xs x k e

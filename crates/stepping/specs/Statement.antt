@@ -10,7 +10,7 @@ use Rattle.refusal.specs.declared.Refusal.{Refusal}
 use Rattle.cells.specs.Form.{headInForm, cellsInForm}
 use Rattle.cells.specs.Image.{image}
 use Rattle.cells.specs.Layout.{kindIn, headOf, announcementOf}
-use Rattle.cells.specs.Statement.{holderIn}
+use Rattle.cells.specs.Statement.{holderIn, CellFits}
 use Rattle.cells.specs.declared.head.Head.the-variants as head
 use Rattle.cells.specs.declared.announcement.Announcement.the-variants as content
 use Rattle.table.specs.declared.Shape.{Shape}
@@ -120,24 +120,11 @@ abbrev pub StepRecordUnchanged : (file cells : List ℕ) (n i : ℕ) → Task �
 StepRecordUnchanged file cells n i t =
     (c : Refusal) → stepTask file cells n i t .answer ≡ step.Refused c → (stepTask file cells n i t .cells ≡ cells) × (stepTask file cells n i t .task ≡ t)
 
--- ---- Heads and records out of form, for all arguments
+-- ---- Cells and records in form and out of form, for all arguments
 
 -- A record in form for n tasks of the table in a file.
-abbrev pub InForm : List ℕ → ℕ → Task → Type 0
-InForm file n t = RecordFits (shapeOf file) n (1000 * (n * n * n)) t
-
--- A step that is not refused takes apart heads in form alone: the saved one is, and so is the one in cell 0 if the step touches it.
-abbrev pub HeadsInForm : (file cells : List ℕ) (n i : ℕ) → Task → Type 0
-HeadsInForm file cells n i t =
-    Unrefused (stepTask file cells n i t .answer)
-    → (headInForm (shapeOf file .states) n (t .head) ≡ true)
-    × (touched (accessOf file n i t) ≡ 0 → headInForm (shapeOf file .states) n (getD cells 0 0) ≡ true)
-
--- It leaves a record in form, on whatever cells, if the record's count is still below the ceiling.
-abbrev pub KeepsForm : (file cells : List ℕ) (n i : ℕ) → Task → Type 0
-KeepsForm file cells n i t =
-    Unrefused (stepTask file cells n i t .answer)
-    → stepTask file cells n i t .task .steps < 1000 * (n * n * n) → InForm file n (stepTask file cells n i t .task)
+abbrev pub FitsTable : List ℕ → ℕ → Task → Type 0
+FitsTable file n t = RecordFits (shapeOf file) n (1000 * (n * n * n)) t
 
 -- The tests of a step before 11 are passed: 1, 2, 3, 5, 6 and 7.
 pub record StepTested (file cells : List ℕ) (n i : ℕ) : Type 0 where
@@ -156,27 +143,52 @@ pub record BeginTested (file : List ℕ) (n i o : ℕ) : Type 0 where
   pub known : o < shapeOf file .operations
   pub ranged : operationInRange file (shapeOf file) o ≡ true
 
--- A step that is refused with the number k, and leaves cells and record.
-pub record RefusedWith (k : ℕ) (cells : List ℕ) (t : Task) (out : TaskOutcome) : Type 0 where
-  pub said : stepSaid (out .answer) ≡ Refused k
-  pub cells-left : out .cells ≡ cells
-  pub task-left : out .task ≡ t
+-- Then 11 is answered exactly if the record is out of form, whatever the cells hold.
+abbrev pub RecordJudged : (file cells : List ℕ) (n i : ℕ) → Task → Type 0
+RecordJudged file cells n i t =
+    StepTested file cells n i → (stepSaid (stepTask file cells n i t .answer) ≡ Refused 11) ↔ (FitsTable file n t → ⊥)
 
--- A pending step that touches a head whose holder is above n is refused with 12.
+abbrev pub BeginRecordJudged : List ℕ → (n i o : ℕ) → Task → Type 0
+BeginRecordJudged file n i o t =
+    BeginTested file n i o → (beginSaid (beginTask file n i o t .answer) ≡ Refused 11) ↔ (FitsTable file n t → ⊥)
+
+-- The cell that a step of a pending record touches is in form for n tasks.
+abbrev pub TouchedFits : (file cells : List ℕ) (n i : ℕ) → Task → Type 0
+TouchedFits file cells n i t =
+    let k = touched (accessOf file n i t) in CellFits (shapeOf file .states) (shapeOf file .operations) n k (getD cells k 0)
+
+-- With a pending record in form, 12 is answered exactly if the touched cell is out of form.
+abbrev pub CellJudged : (file cells : List ℕ) (n i : ℕ) → Task → Type 0
+CellJudged file cells n i t =
+    StepTested file cells n i → FitsTable file n t → t .phase ≢ 0
+    → (stepSaid (stepTask file cells n i t .answer) ≡ Refused 12) ↔ (TouchedFits file cells n i t → ⊥)
+
+-- So a holder above n is refused with 12 in cell 0 if the step touches it, and with 11 in a saved head.
 abbrev pub HolderAbove : (file cells : List ℕ) (n i : ℕ) → Task → Type 0
 HolderAbove file cells n i t =
-    StepTested file cells n i → InForm file n t → t .phase ≢ 0
-    → touched (accessOf file n i t) ≡ 0 → n < holderIn (getD cells 0 0) → RefusedWith 12 cells t (stepTask file cells n i t)
+    StepTested file cells n i → FitsTable file n t → t .phase ≢ 0
+    → touched (accessOf file n i t) ≡ 0 → n < holderIn (getD cells 0 0) → stepSaid (stepTask file cells n i t .answer) ≡ Refused 12
 
--- A pending record that has saved such a head is refused with 11, by step whatever the cells hold, and by begin.
 abbrev pub SavedHolderAbove : (file cells : List ℕ) (n i : ℕ) → Task → Type 0
 SavedHolderAbove file cells n i t =
-    StepTested file cells n i → t .phase ≢ 0 → n < holderIn (t .head) → RefusedWith 11 cells t (stepTask file cells n i t)
+    StepTested file cells n i → t .phase ≢ 0 → n < holderIn (t .head) → stepSaid (stepTask file cells n i t .answer) ≡ Refused 11
 
 abbrev pub BeginHolderAbove : List ℕ → (n i o : ℕ) → Task → Type 0
 BeginHolderAbove file n i o t =
-    BeginTested file n i o → t .phase ≢ 0 → n < holderIn (t .head)
-    → (beginSaid (beginTask file n i o t .answer) ≡ Refused 11) × (beginTask file n i o t .task ≡ t)
+    BeginTested file n i o → t .phase ≢ 0 → n < holderIn (t .head) → beginSaid (beginTask file n i o t .answer) ≡ Refused 11
+
+-- A step that is not refused takes apart heads in form alone: the saved one is, and so is the one in cell 0 if the step touches it.
+abbrev pub HeadsInForm : (file cells : List ℕ) (n i : ℕ) → Task → Type 0
+HeadsInForm file cells n i t =
+    Unrefused (stepTask file cells n i t .answer)
+    → (headInForm (shapeOf file .states) n (t .head) ≡ true)
+    × (touched (accessOf file n i t) ≡ 0 → headInForm (shapeOf file .states) n (getD cells 0 0) ≡ true)
+
+-- It leaves a record in form, on whatever cells, if the record's count is still below the ceiling.
+abbrev pub KeepsForm : (file cells : List ℕ) (n i : ℕ) → Task → Type 0
+KeepsForm file cells n i t =
+    Unrefused (stepTask file cells n i t .answer)
+    → stepTask file cells n i t .task .steps < 1000 * (n * n * n) → FitsTable file n (stepTask file cells n i t .task)
 
 -- ---- Start
 
@@ -252,7 +264,7 @@ pub record PointInForm {file : List ℕ} {n q : ℕ} {s : Store} (o : Opening fi
   pub cells-long : length (shown o .cells xs) ≡ n + 1
   pub cells : cellsInForm (o .shape .states) (o .shape .operations) n (shown o .cells xs) ≡ true
   pub row-long : length (runOf file xs s .row) ≡ n
-  pub row : (i : ℕ) → i < n → RecordFits (o .shape) n (1000 * (n * n * n)) (recordAfter o xs i)
+  pub row : (i : ℕ) → i < n → FitsTable file n (recordAfter o xs i)
 
 -- At every point: after the opening, and after each call, a refused one too.
 abbrev pub InFormThroughout : {file : List ℕ} {n q : ℕ} {s : Store} → Opening file n q s → Type 0

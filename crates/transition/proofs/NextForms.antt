@@ -2,14 +2,15 @@
 use mathlib.Core.Path.{_≡_, refl}
 use mathlib.Core.Bool.{Bool, true, false, cond}
 use mathlib.Core.List.{List}
-use Prim.Native.Nat.{ℕ, _+_, _<_, _≤_}
+use Prim.Native.Nat.{ℕ, _<_, _≤_}
 use native.Mathlib.Omega.{arith}
-use borrow.Author.Tests.{ne-eqb, le-leb, ltb-true}
+use borrow.Author.Tests.{ltb-true}
 use lib.Dec.{eqb}
 use Rattle.laws.proofs.Choice.{choice}
 use Rattle.laws.proofs.Clash.{clash}
 use Rattle.cells.specs.Form.{headInForm, announcementInForm}
 use Rattle.cells.specs.Layout.{hasMark, addMark, headOf, announcementOf}
+use Rattle.cells.specs.Statement.{CellFits}
 use Rattle.cells.specs.declared.head.Head.{Head}
 use Rattle.cells.specs.declared.head.Head.the-variants.{Free, Held}
 use Rattle.cells.specs.declared.announcement.Announcement.{Announcement}
@@ -23,8 +24,7 @@ use Rattle.records.specs.declared.record.Task.{Task}
 use Rattle.records.specs.declared.phase.Phase.{Phase}
 use Rattle.records.specs.declared.phase.Phase.the-variants.{Idle, ReadOnly, Announce, Poll, LoadHead, LinkHead, LoadPriority, LoadOwn, LoadExit, LinkExit, ClearExit, ReleaseExit, Retract, ClearHead, ReloadClear, Apply, ReloadApply, LoadHelped, LinkHelped, Validate, HandOver, ReloadHandOver, Release, ReloadRelease}
 use Rattle.records.specs.Phase.{phaseNumber}
-use Rattle.records.specs.Record.{savedPayloadInForm}
-use Rattle.records.proofs.Forms.{Pending}
+use Rattle.records.specs.Statement.{PendingPoints}
 use Rattle.records.proofs.Phases.{WorksBelow}
 use Rattle.records.proofs.Saved.{Saved, plain, applies, reloads-apply, loads-helped, links-helped, validates, hands-over, reloads-hand-over, releases, reloads-release}
 use Rattle.transition.specs.declared.access.Access.{Access}
@@ -34,9 +34,9 @@ use Rattle.transition.specs.declared.access.Next.{Next}
 use Rattle.transition.specs.declared.access.Next.the-variants.{Go, Turn, End}
 use Rattle.transition.specs.Transition.{planOf, nextOf, wordIn, madeIn, afterPoll, afterLink, afterPriority, afterOwn, afterLinkHelped, holderIs, afterExit}
 
--- A word that is read is in form: from cell 0 as a head, from another as an announcement.
+-- A word that is read is in form.
 abbrev pub FoundFormed : Shape → ℕ → Access → Found → Type 0
-FoundFormed shape n (Read cell) g = cond (eqb cell 0) (headInForm (shape .states) n (wordIn g)) (announcementInForm (shape .operations) n (wordIn g)) ≡ true
+FoundFormed shape n (Read cell) g = CellFits (shape .states) (shape .operations) n cell (wordIn g)
 FoundFormed shape n (Write cell w) g = Unit {0}
 FoundFormed shape n (Swap cell x w) g = Unit {0}
 
@@ -46,7 +46,7 @@ NextFormed shape n (Go f v h a) = Saved shape n f v h a
 NextFormed shape n Turn = Saved shape n Poll 0 0 0
 NextFormed shape n (End r v) = Unit {0}
 
-module _ (file : List ℕ) (shape : Shape) (n c i : ℕ) (t : Task) (few : n ≤ 8) (below : i < n) (own : Pending shape n c t) where
+module _ (file : List ℕ) (shape : Shape) (n c i : ℕ) (t : Task) (few : n ≤ 8) (below : i < n) (own : PendingPoints shape n c t) where
   abbrev HeadFormed : ℕ → Type 0
   HeadFormed w = headInForm (shape .states) n w ≡ true
 
@@ -65,7 +65,7 @@ module _ (file : List ℕ) (shape : Shape) (n c i : ℕ) (t : Task) (few : n ≤
   linked-head : HeadFormed (addMark i (t .head))
   linked-head = head-linked-form i n (t .head) below few (shape .states) (own .head)
 
-  -- The phases Poll and LoadExit, to which many steps lead.
+  -- Phases to which many steps lead.
   polls : Saved shape n Poll 0 0 0
   polls = plain shape n tt refl (omega arith) empty-head
 
@@ -78,17 +78,9 @@ module _ (file : List ℕ) (shape : Shape) (n c i : ℕ) (t : Task) (few : n ≤
   clears : (h : ℕ) → HeadFormed h → Saved shape n ClearHead 0 h 0
   clears h e = plain shape n tt refl (omega arith) e
 
-  -- An announcement that is read from the cell of task j.
-  announced : (j w : ℕ) → cond (eqb (j + 1) 0) (headInForm (shape .states) n w) (announcementInForm (shape .operations) n w) ≡ true → AnnouncementFormed w
-  announced j w e = rw (ne-eqb (j + 1) 0 (λ z. omega arith)) at e
-
+  -- The operation in an announcement.
   operation-below : (w o : ℕ) → AnnouncementFormed w → announcementOf w ≡ content.Operation o → o < shape .operations
   operation-below w o e said = ltb-true o (shape .operations) (rw said at (announcement-range (shape .operations) n w e))
-
-  -- The payload of an operation that is to be applied.
-  payload-below : 16 ≤ t .phase → t .phase ≤ 31 → t .payload < shape .operations
-  unfolding savedPayloadInForm
-  payload-below low high = ltb-true (t .payload) (shape .operations) (rw (le-leb 16 (t .phase) low, le-leb (t .phase) 31 high) at (own .payload))
 
   -- ---- What follows by what a word says
 
@@ -141,25 +133,25 @@ module _ (file : List ℕ) (shape : Shape) (n c i : ℕ) (t : Task) (few : n ≤
   next-formed ReadOnly k e l g r = tt
   next-formed Announce k e l g r = polls
   next-formed Poll k e l g r = after-poll (announcementOf (wordIn g))
-  next-formed LoadHead k e l g r = plain shape n tt refl (omega arith) r
+  next-formed LoadHead k e l g r = plain shape n tt refl (omega arith) (r .head refl)
   next-formed LinkHead k e l g r = either (madeIn g) _ _ (after-link (headOf (t .head)) refl) polls
-  next-formed LoadPriority k e l g r = after-priority (wordIn g) (announced (t .priority) _ r) (announcementOf (wordIn g)) refl
-  next-formed LoadOwn k e l g r = after-own (wordIn g) (announced i _ r) (announcementOf (wordIn g)) refl
-  next-formed LoadExit k e l g r = after-exit (wordIn g) r (hasMark i (wordIn g)) (holderIs i (headOf (wordIn g)))
+  next-formed LoadPriority k e l g r = after-priority (wordIn g) (r .announcement (t .priority) refl) (announcementOf (wordIn g)) refl
+  next-formed LoadOwn k e l g r = after-own (wordIn g) (r .announcement i refl) (announcementOf (wordIn g)) refl
+  next-formed LoadExit k e l g r = after-exit (wordIn g) (r .head refl) (hasMark i (wordIn g)) (holderIs i (headOf (wordIn g)))
   next-formed LinkExit k e l g r = either (madeIn g) _ _ (plain shape n tt refl (omega arith) linked-head) (exits _)
   next-formed ClearExit k e l g r = either (madeIn g) _ _ (retracts _) (exits _)
   next-formed ReleaseExit k e l g r = either (madeIn g) _ _ (retracts _) (exits _)
   next-formed Retract k e l g r = tt
   next-formed ClearHead k e l g r = either (madeIn g) _ _ polls (plain shape n tt refl (omega arith) (own .head))
-  next-formed ReloadClear k e l g r = either (hasMark i (wordIn g)) _ _ (clears (wordIn g) r) polls
-  next-formed (Apply j) k e l g r = either (madeIn g) _ _ polls (reloads-apply shape n few j l (payload-below (omega arith) (omega arith)) (own .head) empty)
-  next-formed (ReloadApply j) k e l g r = either (hasMark i (wordIn g)) _ _ (applies shape n few j l (payload-below (omega arith) (omega arith)) r empty) polls
-  next-formed (LoadHelped j) k e l g r = links-helped shape n few j l some-operation (own .head) (announced j _ r)
+  next-formed ReloadClear k e l g r = either (hasMark i (wordIn g)) _ _ (clears (wordIn g) (r .head refl)) polls
+  next-formed (Apply j) k e l g r = either (madeIn g) _ _ polls (reloads-apply shape n few j l (own .payload (omega arith) (omega arith)) (own .head) empty)
+  next-formed (ReloadApply j) k e l g r = either (hasMark i (wordIn g)) _ _ (applies shape n few j l (own .payload (omega arith) (omega arith)) (r .head refl) empty) polls
+  next-formed (LoadHelped j) k e l g r = links-helped shape n few j l some-operation (own .head) (r .announcement j refl)
   next-formed (LinkHelped j) k e l g r = either (madeIn g) _ _ (after-link-helped j l (announcementOf (t .announcement))) polls
   next-formed (Validate j) k e l g r =
       either (hasMark i (wordIn g)) _ _ (hands-over shape n few j l some-operation (own .head) (own .announcement)) (releases shape n few j l some-operation (own .head) (own .announcement))
   next-formed (HandOver j) k e l g r = either (madeIn g) _ _ (clears _ (own .head)) (reloads-hand-over shape n few j l some-operation (own .head) (own .announcement))
   next-formed (ReloadHandOver j) k e l g r =
-      either (hasMark i (wordIn g)) _ _ (hands-over shape n few j l some-operation (own .head) (announced j _ r)) (clears _ (own .head))
+      either (hasMark i (wordIn g)) _ _ (hands-over shape n few j l some-operation (own .head) (r .announcement j refl)) (clears _ (own .head))
   next-formed (Release j) k e l g r = either (madeIn g) _ _ (clears _ (own .head)) (reloads-release shape n few j l some-operation (own .head) (own .announcement))
-  next-formed (ReloadRelease j) k e l g r = either (hasMark i (wordIn g)) _ _ (releases shape n few j l some-operation (own .head) (announced j _ r)) (clears _ (own .head))
+  next-formed (ReloadRelease j) k e l g r = either (hasMark i (wordIn g)) _ _ (releases shape n few j l some-operation (own .head) (r .announcement j refl)) (clears _ (own .head))

@@ -3,6 +3,7 @@
 
 mod both;
 mod random_calls;
+mod smallest;
 
 use std::collections::BTreeSet;
 
@@ -11,6 +12,7 @@ use drive_object::{Progress, Task};
 use random_calls::random_call;
 use reference::random::Random;
 use reference::table_file::TableFile;
+use smallest::smallest;
 
 const CALLS: usize = 20_000;
 
@@ -85,13 +87,12 @@ fn try_all(lent: &Lent, operations: usize, seen: &mut BTreeSet<u8>) {
 }
 
 /// The refusals seen in damaged runs of one to eight tasks.
-fn damaged_runs(by: By) -> BTreeSet<u8> {
-    let flag = TableFile::flag();
-    let operations = usize::from(flag.operations);
+fn damaged_runs(by: By, table: &TableFile) -> BTreeSet<u8> {
+    let operations = usize::from(table.operations);
     let mut seen = BTreeSet::new();
     for tasks in 1..=8 {
         let mut random = Random::new(tasks as u64);
-        let mut lent = Lent::new(by, flag.to_bytes(), tasks);
+        let mut lent = Lent::new(by, table.to_bytes(), tasks);
         assert_eq!(lent.start(), 0);
         for _ in 0..CALLS {
             random_call(&mut lent, operations, &mut random);
@@ -105,8 +106,10 @@ fn damaged_runs(by: By) -> BTreeSet<u8> {
 
 #[test]
 fn damaged_runs_answer_as_the_second_program() {
+    let answers = BTreeSet::from([0, 1, 2, 3, 4, 9, 10, 11, 12]);
     for by in By::EACH {
-        assert_eq!(damaged_runs(by), BTreeSet::from([0, 1, 2, 3, 4, 9, 10, 11, 12]));
+        assert_eq!(damaged_runs(by, &TableFile::flag()), answers);
+        assert_eq!(damaged_runs(by, &smallest()), answers);
     }
 }
 
@@ -147,28 +150,32 @@ fn step_with_each_bit(lent: &Lent, task: usize, ends: &mut BTreeSet<(u32, bool)>
 }
 
 /// How operations ended in runs with each bit changed.
-fn runs_with_each_bit(by: By) -> BTreeSet<(u32, bool)> {
-    let flag = TableFile::flag();
+fn runs_with_each_bit(by: By, table: &TableFile) -> BTreeSet<(u32, bool)> {
     let mut ends = BTreeSet::new();
     for tasks in 1..=TASKS_WITH_EACH_BIT {
         let mut random = Random::new(tasks as u64);
-        let mut lent = Lent::new(by, flag.to_bytes(), tasks);
+        let mut lent = Lent::new(by, table.to_bytes(), tasks);
         assert_eq!(lent.start(), 0);
         for _ in 0..CALLS_WITH_EACH_BIT {
-            random_call(&mut lent, usize::from(flag.operations), &mut random);
+            random_call(&mut lent, usize::from(table.operations), &mut random);
             (0..tasks).for_each(|task| step_with_each_bit(&lent, task, &mut ends));
         }
     }
     ends
 }
 
-/// Only its phase says that a record reads, so after a change ReadOnly can answer that the state moved.
+/// Only its phase says that a record reads, so after a change ReadOnly can answer that the state moved. With one state
+/// nothing can move, and every operation reads.
 #[test]
 fn steps_with_each_bit_changed_answer_as_the_second_program() {
     let each = [READ_ONLY, RETRACT].into_iter();
     let each = each.flat_map(|phase| [(phase, false), (phase, true)]);
     let each = BTreeSet::from_iter(each);
     for by in By::EACH {
-        assert_eq!(runs_with_each_bit(by), each);
+        assert_eq!(runs_with_each_bit(by, &TableFile::flag()), each);
+        assert_eq!(
+            runs_with_each_bit(by, &smallest()),
+            BTreeSet::from([(READ_ONLY, false)])
+        );
     }
 }

@@ -1,6 +1,7 @@
 //! Every refusal of every call, alone and with others, compared with the second program.
 
 mod both;
+mod smallest;
 
 use std::collections::BTreeSet;
 
@@ -9,8 +10,9 @@ use drive_object::{Refusal, Shape, Task, LONGEST_FILE};
 use reference::refusal;
 use reference::table::Table;
 use reference::table_file::TableFile;
+use smallest::smallest;
 
-/// The flag's file, and one for each of the causes 1 to 4; 4 in each operation.
+/// The flag's file and the smallest one, and one for each of the causes 1 to 4; 4 in each operation.
 fn files() -> Vec<Vec<u8>> {
     let flag = TableFile::flag();
     let damaged = |damage: &dyn Fn(&mut TableFile)| {
@@ -20,6 +22,7 @@ fn files() -> Vec<Vec<u8>> {
     };
     vec![
         flag.to_bytes(),
+        smallest().to_bytes(),
         Vec::new(),
         damaged(&|file| file.mark[5] = b'2'),
         damaged(&|file| file.start = 2),

@@ -1,24 +1,18 @@
 //! Whole runs of one to eight tasks in a random order, every answer, cell and record compared with the second program.
 
 mod both;
+mod largest;
 mod random_calls;
 
 use both::{By, Lent};
 use drive_object::Progress;
+use largest::largest;
 use random_calls::random_call;
 use reference::random::Random;
 use reference::table_file::TableFile;
 
 const CALLS: usize = 20_000;
 const FEWEST_ENDED: usize = 50;
-
-/// 256 states and 32 operations; operation o goes o states on and answers state and operation mixed.
-fn largest() -> TableFile {
-    let entries: Vec<(u8, u8)> = (0..=255u8)
-        .flat_map(|state| (0..32u8).map(move |o| (state.wrapping_add(o), state ^ o)))
-        .collect();
-    TableFile::plain(256, 32, 255, &entries).with_text(vec![b' '; 4_096])
-}
 
 /// Makes random calls, some of them refused; how many operations ended without moving the state, and how many moved it.
 fn run(by: By, file: &TableFile, tasks: usize) -> [usize; 2] {
