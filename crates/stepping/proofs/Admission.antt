@@ -13,7 +13,7 @@ use Rattle.laws.proofs.Clash.{never}
 use Rattle.refusal.specs.declared.Refusal.{Refusal}
 use Rattle.cells.specs.Ceiling.{greatestCeiling, ceilings, ceilingOf}
 use Rattle.cells.specs.declared.ceiling.Ceiling.{Ceiling}
-use Rattle.cells.specs.declared.ceiling.Ceiling.the-variants as ceiling
+use Rattle.cells.specs.declared.ceiling.Ceiling.the-variants as limit
 use Rattle.cells.proofs.Ceilings.{ceiling-cubed}
 use Rattle.table.specs.declared.Shape.{Shape}
 use Rattle.table.specs.declared.Checked.{Checked}
@@ -28,13 +28,13 @@ pub record Ranges (n c : ℕ) : Type 0 where
   pub few : n ≤ 8
   pub low : c ≤ greatestCeiling
 
-refused : {reason : Refusal} {c : ℕ} → ceiling.Refused reason ≡ ceiling.Steps c → ⊥
+refused : {reason : Refusal} {c : ℕ} → limit.Refused reason ≡ limit.Steps c → ⊥
 refused e = never cc
 
 small : ℕ → Bool
 small k = leb (getD ceilings k 0) greatestCeiling
 
-pub ceiling-ranges : (n c : ℕ) → ceilingOf n ≡ ceiling.Steps c → Ranges n c
+pub ceiling-ranges : (n c : ℕ) → ceilingOf n ≡ limit.Steps c → Ranges n c
 unfolding ceilingOf small allBelow
 ceiling-ranges n c e = at (leb 1 n) (leb n 8) refl refl
   where
@@ -48,29 +48,32 @@ ceiling-ranges n c e = at (leb 1 n) (leb n 8) refl refl
     at false b p q = absurd (refused (simp p at e))
 
 -- A call is admitted only with a layout that is accepted and a ceiling for its row, which are then in these ranges.
-admitted-parts : (n c : ℕ) (shape : Shape) (checked : Checked) → withRow n checked ≡ admitted.Admits c shape → (checked ≡ table.Accepted shape) × (ceilingOf n ≡ ceiling.Steps c)
+admitted-parts : (n c : ℕ) (shape : Shape) (checked : Checked) → withRow n checked ≡ admitted.Admits c shape → (checked ≡ table.Accepted shape) × (ceilingOf n ≡ limit.Steps c)
 admitted-parts n c shape (table.Accepted found) e = at (ceilingOf n) refl e
   where
-    at : (x : Ceiling) → ceilingOf n ≡ x → withCeiling found x ≡ admitted.Admits c shape → (table.Accepted found ≡ table.Accepted shape) × (ceilingOf n ≡ ceiling.Steps c)
-    at (ceiling.Steps d) p q =
+    at : (x : Ceiling) → ceilingOf n ≡ x → withCeiling found x ≡ admitted.Admits c shape → (table.Accepted found ≡ table.Accepted shape) × (ceilingOf n ≡ limit.Steps c)
+    at (limit.Steps d) p q =
         let same : found ≡ shape = cc in
         let high : d ≡ c = cc in
-        (ap table.Accepted same, p ∙ ap ceiling.Steps high)
-    at (ceiling.Refused reason) p q = never cc
+        (ap table.Accepted same, p ∙ ap limit.Steps high)
+    at (limit.Refused reason) p q = never cc
 admitted-parts n c shape (table.Refused reason) e = never cc
 
 pub admitted-ranges : (n c : ℕ) (shape : Shape) (checked : Checked) → withRow n checked ≡ admitted.Admits c shape → Ranges n c
 admitted-ranges n c shape checked e = ceiling-ranges n c (admitted-parts n c shape checked e .1)
 
 module _ (file : List ℕ) (n c : ℕ) (shape : Shape) (e : admitOf file n ≡ admitted.Admits c shape) where
-  pub admit-parts : (layoutOf file ≡ table.Accepted shape) × (ceilingOf n ≡ ceiling.Steps c)
+  pub admit-parts : (layoutOf file ≡ table.Accepted shape) × (ceilingOf n ≡ limit.Steps c)
   unfolding admitOf
   admit-parts = admitted-parts n c shape (layoutOf file) e
 
   pub admit-ranges : Ranges n c
   admit-ranges = ceiling-ranges n c (admit-parts .1)
 
--- With both it is admitted, and the ceiling is 1,000·n³.
-pub admits : (file : List ℕ) (n : ℕ) (shape : Shape) → layoutOf file ≡ table.Accepted shape → 1 ≤ n → n ≤ 8 → admitOf file n ≡ admitted.Admits (1000 * (n * n * n)) shape
+-- The ceiling of own steps with n tasks; with both parts a call is admitted, and has it.
+abbrev pub ceiling : ℕ → ℕ
+ceiling n = 1000 * (n * n * n)
+
+pub admits : (file : List ℕ) (n : ℕ) (shape : Shape) → layoutOf file ≡ table.Accepted shape → 1 ≤ n → n ≤ 8 → admitOf file n ≡ admitted.Admits (ceiling n) shape
 unfolding admitOf
 admits file n shape e some few = rw (e, ceiling-cubed n some few)

@@ -37,8 +37,9 @@ use Rattle.stepping.specs.Runs.{Store, CallOutcome, serveOf, runOf, hist
 use Rattle.stepping.specs.Opening.{Opening, objectIn, shown}
 use Rattle.stepping.specs.Statement.{FitsTable, recordAfter, InFormThroughout, EmptyAt, Emptied}
 use Rattle.stepping.specs.Encoding.{encodeCells, encodeRow, encodeConfig}
+use Rattle.stepping.proofs.Admission.{ceiling}
 use Rattle.stepping.proofs.Accesses.{cells-length, encoded-empty, encoded-in-form}
-use Rattle.stepping.proofs.Simulation.{ceiling, InRange, record-fits, serve-simulates, run-simulates, history-simulates, access-simulates}
+use Rattle.stepping.proofs.Simulation.{InRange, record-fits, serve-simulates, run-simulates, history-simulates, access-simulates}
 use Rattle.stepping.proofs.Starts.{start-cells, start-row}
 
 -- Every list of calls leads from a good start state to a configuration in range.

@@ -3,7 +3,7 @@ use mathlib.Core.Path.{_≡_, subst}
 use mathlib.Core.Bool.{Bool, true, false, cond, not-eq-not}
 use mathlib.Core.Logic.{_↔_, _≢_}
 use mathlib.Core.List.{List}
-use Prim.Native.Nat.{ℕ, _+_, _*_, _<_}
+use Prim.Native.Nat.{ℕ, _+_, _<_}
 use native.Mathlib.Omega.{arith}
 use borrow.Author.Tests.{lt-ltb, eq-eqb, ne-eqb}
 use lib.Dec.{eqb}
@@ -30,12 +30,8 @@ use Rattle.stepping.specs.Step.{touched, cellInForm, answerOf, ledTo, se
 use Rattle.stepping.specs.Call.{refuseStep, touch, stepFrom, stepTask, stepSaid, begunTask, refuseBegin, beginFrom, beginTask, beginSaid}
 use Rattle.stepping.specs.Access.{accessOf}
 use Rattle.stepping.specs.Statement.{FitsTable, StepTested, RecordJudged, BeginRecordJudged, TouchedFits, CellJudged, HolderAbove, SavedHolderAbove, BeginHolderAbove}
-use Rattle.stepping.proofs.Admission.{admits}
+use Rattle.stepping.proofs.Admission.{ceiling, admits}
 use Rattle.stepping.proofs.Forms.{cell-fits}
-
--- The ceiling with n tasks.
-abbrev ceiling : ℕ → ℕ
-ceiling n = 1000 * (n * n * n)
 
 -- ---- What the parts of a step say
 
@@ -94,7 +90,7 @@ module _ (file cells : List ℕ) (n i : ℕ) (t : Task) (s : StepTested file cel
     abbrev word : ℕ
     word = getD cells (touched planned) 0
 
-    pub step-access : accessOf file n i t ≡ planned
+    step-access : accessOf file n i t ≡ planned
     unfolding accessOf
     step-access = rw (admits file n shape (s .accepted) (s .some) (s .few), read)
 

@@ -2,7 +2,7 @@
 use mathlib.Core.Path.{_≡_, refl, sym, _∙_}
 use mathlib.Core.Bool.{Bool, true, false, cond}
 use mathlib.Core.List.{List}
-use Prim.Native.Nat.{ℕ, _+_, _*_}
+use Prim.Native.Nat.{ℕ, _+_}
 use lib.Dec.{eqb, ltb}
 use lib.ListN.{length, getD}
 use Rattle.refusal.specs.declared.Refusal.{Refusal}
@@ -24,7 +24,7 @@ use Rattle.stepping.specs.Step.{touched, cellInForm, TaskOutcome, served
 use Rattle.stepping.specs.Call.{admitOf, refuseStep, touch, stepFrom, stepIn, stepTask}
 use Rattle.stepping.specs.Access.{accessOf}
 use Rattle.stepping.specs.Statement.{Unrefused}
-use Rattle.stepping.proofs.Admission.{Ranges, admit-parts, admit-ranges}
+use Rattle.stepping.proofs.Admission.{Ranges, admit-parts, admit-ranges, ceiling}
 
 module _ (file cells : List ℕ) (n i : ℕ) (t : Task) where
   -- The access of a phase of a table with this shape.
@@ -94,5 +94,5 @@ module _ (file cells : List ℕ) (n i : ℕ) (t : Task) where
     pub shape-is : p .shape ≡ shapeOf file
     shape-is = layout-fitting file (p .shape) (admit-parts file n (p .ceiling) (p .shape) (p .admits) .0) .shape-is
 
-    pub ceiling-is : p .ceiling ≡ 1000 * (n * n * n)
+    pub ceiling-is : p .ceiling ≡ ceiling n
     ceiling-is = cc (sym (admit-parts file n (p .ceiling) (p .shape) (p .admits) .1) ∙ ceiling-cubed n (ranges .some) (ranges .few))

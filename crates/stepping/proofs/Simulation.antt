@@ -2,7 +2,7 @@
 use mathlib.Core.Path.{_≡_, refl, ap, sym, subst, _∙_}
 use mathlib.Core.Bool.{Bool, true, false, cond}
 use mathlib.Core.List.{List, [], _∷_}
-use Prim.Native.Nat.{ℕ, _+_, _*_, _<_, _≤_}
+use Prim.Native.Nat.{ℕ, _+_, _<_, _≤_}
 use borrow.Author.Tests.{ltb-true, lt-ltb, eq-eqb}
 use lib.Dec.{ltb}
 use lib.ListN.{length, set}
@@ -41,16 +41,12 @@ use Rattle.stepping.specs.Encoding.{encodeCells, encodeRow, encodeConfig
 use Rattle.stepping.specs.Runs.{serveOf, runOf, historyOf}
 use Rattle.laws.proofs.Tabulate.{tabulate-length, tabulate-at, tabulate-set}
 use Rattle.records.proofs.Saved.{idle-read}
-use Rattle.stepping.proofs.Admission.{admits}
+use Rattle.stepping.proofs.Admission.{ceiling, admits}
 use Rattle.stepping.proofs.Records.{pending-read, pending-number, idle-kept, task-fits}
 use Rattle.stepping.proofs.Accesses.{cells-length, touched-in-form, result-simulates, perform-simulates}
 use Rattle.stepping.proofs.Planned.{plan-formed, entry-in-range}
 use Rattle.stepping.proofs.Advances.{advance-simulates, answer-simulates}
 use Rattle.stepping.specs.Access.{accessOf as wordAccess}
-
--- The ceiling of own steps with n tasks.
-abbrev pub ceiling : ℕ → ℕ
-ceiling n = 1000 * (n * n * n)
 
 -- A configuration whose cells and records are in range, with the steps of every pending operation below the ceiling.
 pub record InRange (b : Object) (n : ℕ) (c : Config) : Type 0 where
