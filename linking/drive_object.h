@@ -61,7 +61,7 @@ enum drive_refusal {
     DRIVE_PENDING = 9,     /* begin with an operation pending */
     DRIVE_IDLE = 10,       /* step with none pending */
     DRIVE_RECORD = 11,     /* record out of the forms in docs/RECORDS.md */
-    DRIVE_CELL = 12,       /* touched cell out of form, such as a head whose holder is no task of the row */
+    DRIVE_CELL = 12,       /* touched cell out of form, such as a head whose holder is above n */
     DRIVE_RINGS = 14,      /* list not of 1 to 255 whole rings, or a length or kind out of range */
     DRIVE_CHAINAGE = 15,   /* chainage that no ring owns */
     DRIVE_ROOM = 16        /* lent room shorter than what is to be written */

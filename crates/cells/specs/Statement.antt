@@ -1,4 +1,5 @@
--- docs/FORMATS.md, "The cells": what is proved of the form of a head, with s states and n tasks, and when a cell is in form.
+-- docs/FORMATS.md, "The cells": what is proved of the form of a head, with s states and n tasks, and when a cell is in form. The
+-- proofs are in proofs/Theorem.antt.
 use mathlib.Core.Path.{_≡_}
 use mathlib.Core.Bool.{Bool, true, false, _&&_}
 use mathlib.Core.Logic.{_↔_}
@@ -15,14 +16,14 @@ use Rattle.cells.specs.declared.head.Head.the-variants.{Held}
 abbrev pub holderIn : ℕ → ℕ
 holderIn w = w / 16777216 % 16
 
--- The rows of docs/FORMATS.md, "The cells", that a head has to keep.
+-- What a head has to keep: its rows in docs/FORMATS.md, and a holder of at most 8, which follows for n up to 8.
 pub record HeadPoints (s n w : ℕ) : Type 0 where
   -- Bits that aren't named are 0.
   pub named : w < 536870912
   -- Marks of tasks from n up are 0.
   pub marked : w % 256 < 2 ^ n
   pub state : w / 256 % 256 < s
-  -- The holder is 0 for none, else the number of one of the n tasks plus 1, and at most 8.
+  -- The holder is 0 for none, else the number of one of the n tasks plus 1.
   pub holder : holderIn w ≤ n
   pub most : holderIn w ≤ 8
   -- With holder 0 response and moved are 0.
@@ -36,7 +37,7 @@ PointByPoint s n w = (headInForm s n w ≡ true) ↔ HeadPoints s n w
 abbrev pub HolderIsTask : (s n w : ℕ) → Type 0
 HolderIsTask s n w = headInForm s n w ≡ true → (q j r : ℕ) (moved : Bool) → headOf w ≡ Held q j r moved → j < n
 
--- With n at most 8, the form is the one with 8 tasks, and marks and holder of tasks below n; nothing more.
+-- For n at most 8: in form with n tasks exactly if in form with 8 and marks and holder are of tasks below n.
 abbrev pub WithinEight : (s n w : ℕ) → Type 0
 WithinEight s n w = n ≤ 8 → headInForm s n w ≡ (ltb (w % 256) (2 ^ n) && (headInForm s 8 w && leb (holderIn w) n))
 

@@ -1,10 +1,10 @@
 -- What a record in form has, and when it is refused with 11.
-use mathlib.Core.Path.{_≡_, refl, ap, sym, _∙_}
+use mathlib.Core.Path.{_≡_, refl, ap, sym, subst, _∙_}
 use mathlib.Core.Bool.{Bool, true, false, _&&_, _||_, and-eq-true-iff}
 use mathlib.Core.Logic.{_↔_, _≢_}
 use Prim.Native.Nat.{ℕ, _%_, _<_, _≤_}
-use borrow.Author.Tests.{ne-eqb, ltb-true, ltb-false, lt-ltb, le-ltb, leb-true, le-leb}
-use lib.Dec.{ltb, leb}
+use borrow.Author.Tests.{eqb-true, eq-eqb, ne-eqb, ltb-true, ltb-false, lt-ltb, le-ltb, leb-true, le-leb}
+use lib.Dec.{eqb, ltb, leb}
 use Rattle.laws.proofs.Choice.{choice-by}
 use Rattle.laws.proofs.Clash.{never}
 use Rattle.refusal.specs.declared.Refusal.{Refusal}
@@ -16,9 +16,10 @@ use Rattle.records.specs.declared.phase.Phase.{Phase}
 use Rattle.records.specs.declared.phase.PhaseRead.{PhaseRead}
 use Rattle.records.specs.declared.phase.PhaseRead.the-variants.{Known, Refused}
 use Rattle.records.specs.Phase.{phaseOf}
-use Rattle.records.specs.Record.{namesTask, savedPayloadInForm, numbersInForm, wordsInForm, pendingInForm, recordInForm, readInForm, readRecord, RecordFits}
-use Rattle.records.specs.Statement.{PendingPoints, PendingByPoint}
-use Rattle.records.proofs.Phases.{WorksBelow, works, refused-read}
+use Rattle.records.specs.Record.{idleInForm, namesTask, savedPayloadInForm, numbersInForm, wordsInForm, pendingInForm, recordInForm, readInForm, readRecord, RecordFits}
+use Rattle.records.specs.Statement.{PendingPoints, PendingByPoint, IdleByPoint}
+use Rattle.records.proofs.Phases.{WorksBelow, works, number-known, known-number, refused-read}
+use Rattle.records.proofs.Saved.{idle-read}
 
 -- A record is read as a phase only if it is in form and its number is that phase's.
 parts : (fits : Bool) (read : PhaseRead) (f : Phase) → readInForm fits read ≡ Known f → (fits ≡ true) × (read ≡ Known f)
@@ -59,10 +60,10 @@ module _ (shape : Shape) (n c : ℕ) (t : Task) where
   unfolding readRecord
   cause-read = record-cause (recordInForm shape n c t) (phaseOf (t .phase)) (refused-read (t .phase))
 
-  -- The pending form asks for its points, and for nothing else.
-  pending-points : pendingInForm shape n c t ≡ true → PendingPoints shape n c t
+  -- The tests of the pending form, and what they say; it asks for nothing else.
+  pending-points : t .phase ≤ 87 → t .phase ≢ 15 → pendingInForm shape n c t ≡ true → PendingPoints shape n c t
   unfolding pendingInForm numbersInForm wordsInForm
-  pending-points e =
+  pending-points numbered used e =
       let a = namesTask n (t .phase) in
       let b = a && ltb (t .operation) (shape .operations) in
       let d = b && ltb (t .priority) n in
@@ -74,6 +75,8 @@ module _ (shape : Shape) (n c : ℕ) (t : Task) where
       let placed = and-eq-true-iff b (ltb (t .priority) n) .0 (counted .0) in
       let known = and-eq-true-iff a (ltb (t .operation) (shape .operations)) .0 (placed .0) in
       record {
+        numbered = numbered;
+        used = used;
         named = names-point n (t .phase) .0 (known .0);
         operation = ltb-true (t .operation) (shape .operations) (known .1);
         priority = ltb-true (t .priority) n (placed .1);
@@ -89,13 +92,40 @@ module _ (shape : Shape) (n c : ℕ) (t : Task) where
       simp (names-point n (t .phase) .1 (p .named), lt-ltb _ _ (p .operation), lt-ltb _ _ (p .priority), lt-ltb _ _ (p .steps), payload-point (shape .operations) t .1 (p .payload), p .head, p .announcement)
 
   pub pending-by-point : PendingByPoint shape n c t
+  unfolding readRecord recordInForm
+  pending-by-point pending = (
+      λ (f, e). let read = read-parts f e in let number = known-number (t .phase) f (read .1) in pending-points (number .0) (number .1) (rw (ne-eqb (t .phase) 0 pending) at (read .0)),
+      λ p. let known = number-known (t .phase) (p .numbered) (p .used) in (known .0, rw (ne-eqb (t .phase) 0 pending, points-pending p, known .1)),
+    )
+
+  -- The idle form.
+  idle-points : idleInForm n t ≡ true → (t .priority < n) × (t .head ≡ 0) × (t .announcement ≡ 0) × (t .payload ≡ 0) × (t .steps ≡ 0) × (t .operation ≡ 0)
+  unfolding idleInForm
+  idle-points e =
+      let a = ltb (t .priority) n in
+      let b = a && eqb (t .head) 0 in
+      let d = b && eqb (t .announcement) 0 in
+      let f = d && eqb (t .payload) 0 in
+      let g = f && eqb (t .steps) 0 in
+      let all = and-eq-true-iff g (eqb (t .operation) 0) .0 e in
+      let counted = and-eq-true-iff f (eqb (t .steps) 0) .0 (all .0) in
+      let paid = and-eq-true-iff d (eqb (t .payload) 0) .0 (counted .0) in
+      let announced = and-eq-true-iff b (eqb (t .announcement) 0) .0 (paid .0) in
+      let headed = and-eq-true-iff a (eqb (t .head) 0) .0 (announced .0) in
+      (ltb-true (t .priority) n (headed .0), eqb-true _ 0 (headed .1), eqb-true _ 0 (announced .1), eqb-true _ 0 (paid .1), eqb-true _ 0 (counted .1), eqb-true _ 0 (all .1))
+
+  pub idle-by-point : IdleByPoint shape n c t
   unfolding recordInForm
-  pending-by-point pending = rw (ne-eqb (t .phase) 0 pending) (pending-points, points-pending)
+  idle-by-point idle = (
+      λ (f, e). let (priority, head, announcement, payload, steps, operation) = idle-points (rw (eq-eqb (t .phase) 0 idle) at (read-parts f e .0)) in
+        (priority, λ k. record { head = head k; announcement = announcement k; payload = payload k; steps = steps k; operation = operation k; priority = t .priority; phase = idle k }),
+      λ (priority, same). subst (RecordFits shape n c) (sym same) (_, idle-read shape n c (t .priority) priority),
+    )
 
   -- A pending record that is read keeps its points, and its phase works for a task below n.
   module _ (pending : t .phase ≢ 0) (f : Phase) (e : readRecord shape n c t ≡ Known f) where
     pub read-points : PendingPoints shape n c t
-    read-points = pending-by-point pending .0 (read-parts f e .0)
+    read-points = pending-by-point pending .0 (f, e)
 
     pub read-works : WorksBelow n f
     read-works = works n (t .phase) (names-point n (t .phase) .1 (read-points .named)) f (read-parts f e .1)

@@ -1,15 +1,18 @@
 -- Which number has which phase, and the task that a phase works for.
 use mathlib.Core.Path.{_≡_, refl, sym, ap, subst, _∙_}
-use mathlib.Core.Bool.{Bool, true, false, cond, _&&_, or-true, and-eq-true-iff}
+use mathlib.Core.Bool.{Bool, true, false, cond, _&&_, _||_, or-true, and-eq-true-iff}
+use mathlib.Core.Logic.{_≢_}
 use mathlib.Core.List.{List, [], _∷_}
 use Prim.Native.Nat.{ℕ, zero, suc, _+_, _*_, _-_, _%_, _≤_, _<_}
 use native.Mathlib.Nat.{mod-lt}
 use native.Mathlib.Omega.{arith}
-use borrow.Author.Tests.{eqb-true, ne-eqb, le-leb, lt-leb, lt-ltb, le-ltb, ltb-true, leb-true}
+use borrow.Author.Tests.{eqb-true, ne-eqb, le-leb, lt-leb, lt-ltb, le-ltb, ltb-true, leb-true, leb-false}
 use lib.Arith.{lt-of-le-ne}
 use lib.Dec.{eqb, leb, ltb}
 use lib.ListN.{length, getD}
-use Rattle.laws.proofs.Clash.{never}
+use Rattle.laws.specs.Below.{allBelow}
+use Rattle.laws.proofs.Below.{all-at}
+use Rattle.laws.proofs.Clash.{clash, never}
 use Rattle.refusal.specs.declared.Refusal.{Refusal}
 use Rattle.refusal.specs.declared.Refusal.the-variants as cause
 use Rattle.records.specs.declared.phase.Phase.{Phase}
@@ -231,3 +234,27 @@ module _ (k : ℕ) where
 
   pub refused-read : (c : Refusal) → phaseOf k ≡ Refused c → c ≡ cause.Record
   refused-read = every 8 k eight .refused
+
+-- The numbers of phases are those up to 87 but 15.
+isKnown : PhaseRead → Bool
+isKnown (Known f) = true
+isKnown (Refused c) = false
+
+numbered : ℕ → Bool
+numbered k = isKnown (phaseOf k) || eqb k 15
+
+pub number-known : (k : ℕ) → k ≤ 87 → k ≢ 15 → (f : Phase) × (phaseOf k ≡ Known f)
+unfolding isKnown numbered phaseOf allBelow
+number-known k l other = by (phaseOf k) refl (all-at 88 numbered refl k (omega arith))
+  where
+    by : (read : PhaseRead) → phaseOf k ≡ read → isKnown (phaseOf k) || eqb k 15 ≡ true → (f : Phase) × (phaseOf k ≡ Known f)
+    by (Known f) e t = (f, e)
+    by (Refused c) e t = clash (rw e at t) (ne-eqb k 15 other)
+
+pub known-number : (k : ℕ) (f : Phase) → phaseOf k ≡ Known f → (k ≤ 87) × (k ≢ 15)
+unfolding phaseOf
+known-number k f e = (low (leb k 87) refl, λ z. never (cc (sym (ap phaseOf z) ∙ e)))
+  where
+    low : (b : Bool) → leb k 87 ≡ b → k ≤ 87
+    low true t = leb-true k 87 t
+    low false t = never (cc (sym (unknown k (leb-false k 87 t)) ∙ e))

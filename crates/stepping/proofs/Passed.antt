@@ -10,7 +10,7 @@ use Rattle.refusal.specs.declared.Refusal.the-variants as cause
 use Rattle.cells.proofs.Ceilings.{ceiling-cubed}
 use Rattle.table.specs.declared.Shape.{Shape}
 use Rattle.table.specs.File.{shapeOf}
-use Rattle.table.proofs.Fitting.{layout-fitting}
+use Rattle.table.proofs.Fitting.{Fitting, layout-fitting}
 use Rattle.records.specs.declared.record.Task.{Task}
 use Rattle.records.specs.declared.phase.Phase.{Phase}
 use Rattle.records.specs.declared.phase.PhaseRead.{PhaseRead}
@@ -90,9 +90,12 @@ module _ (file cells : List ℕ) (n i : ℕ) (t : Task) where
     pub ranges : Ranges n (p .ceiling)
     ranges = admit-ranges file n (p .ceiling) (p .shape) (p .admits)
 
+    pub fitting : Fitting file (p .shape)
+    fitting = layout-fitting file (p .shape) (admit-parts file n (p .ceiling) (p .shape) (p .admits) .0)
+
     -- The shape is the one that the trailer says, and the ceiling is 1,000·n³.
     pub shape-is : p .shape ≡ shapeOf file
-    shape-is = layout-fitting file (p .shape) (admit-parts file n (p .ceiling) (p .shape) (p .admits) .0) .shape-is
+    shape-is = fitting .shape-is
 
     pub ceiling-is : p .ceiling ≡ ceiling n
     ceiling-is = cc (sym (admit-parts file n (p .ceiling) (p .shape) (p .admits) .1) ∙ ceiling-cubed n (ranges .some) (ranges .few))

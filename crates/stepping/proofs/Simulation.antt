@@ -27,7 +27,7 @@ use Rattle.records.specs.declared.phase.Phase.the-variants as phase
 use Rattle.transition.specs.declared.access.Next.{Next}
 use Rattle.stepping.specs.declared.answer.Begin as declared
 use Rattle.stepping.specs.declared.answer.BeginAnswer.the-variants as opening
-use Rattle.stepping.specs.declared.call.Admitted.the-variants as answer
+use Rattle.stepping.specs.declared.call.Admitted.the-variants as admission
 use Rattle.records.specs.Phase.{phaseNumber}
 use Rattle.records.specs.Record.{idleTask, readRecord, RecordFits}
 use Rattle.transition.specs.Transition.{nextOf}
@@ -63,7 +63,7 @@ module _ (file : List ℕ) (shape : Shape) (table : ObjectTable file shape) (n :
   object = objectOf file shape
 
   -- The tests that all calls share are passed.
-  admitted : admitOf file n ≡ answer.Admits (ceiling n) shape
+  admitted : admitOf file n ≡ admission.Admits (ceiling n) shape
   admitted = admits file n shape (accepted-parts file shape (table .accepted) .0) some most
 
   -- One task's part of a step: task i is below n, or refused.

@@ -22,11 +22,11 @@ use Rattle.stepping.specs.Call.{StartOutcome}
 use Rattle.stepping.specs.Runs.{Store}
 use Rattle.stepping.specs.Opening.{Opening, objectIn}
 use Rattle.stepping.specs.Lent.{Places}
-use Rattle.stepping.specs.Statement.{MakesAccess, FollowsResult, Local, OneCell, BeginByRecord, StepByRecord, StartUnchanged, BeginUnchanged, StepUnchanged, BeginRecordUnchanged, StepRecordUnchanged, RecordJudged, BeginRecordJudged, CellJudged, HolderAbove, SavedHolderAbove, BeginHolderAbove, HeadsInForm, KeepsForm, Startable, StartOpens, Demands, SharperDemands, Independent, Answered, Carried, InFormThroughout, Refusals, Endings, Emptied, Between, OpensNext}
+use Rattle.stepping.specs.Statement.{MakesAccess, FollowsResult, Local, OneCell, BeginByRecord, StepByRecord, StartUnchanged, BeginUnchanged, StepUnchanged, BeginRecordUnchanged, StepRecordUnchanged, RecordJudged, BeginRecordJudged, CellJudged, HolderAbove, SavedHolderAbove, BeginHolderAbove, HeadsInForm, KeepsForm, LeavesInForm, Startable, StartOpens, Demands, SharperDemands, Independent, Answered, Carried, InFormThroughout, Refusals, Endings, Emptied, Between, OpensNext}
 use Rattle.stepping.proofs.Between.{between, opens-next}
 use Rattle.stepping.proofs.Demands.{opens, points-in-form, history-opened, answer-opened, access-opened, refused-opened, emptied}
 use Rattle.stepping.proofs.Outcomes.{answered, met, unmoved}
-use Rattle.stepping.proofs.Forms.{heads-in-form, keeps-form}
+use Rattle.stepping.proofs.Forms.{heads-in-form, keeps-form, leaves-in-form}
 use Rattle.stepping.proofs.Judged.{record-judged, begin-record-judged, cell-judged, holder-above, saved-holder-above, begin-holder-above}
 use Rattle.stepping.proofs.Local.{step-local, step-elsewhere}
 use Rattle.stepping.proofs.AccessRule.{makes-access, follows-result}
@@ -98,12 +98,15 @@ saved-holder-refused = saved-holder-above
 pub begin-holder-refused : (file : List ℕ) (n i o : ℕ) (t : Task) → BeginHolderAbove file n i o t
 begin-holder-refused = begin-holder-above
 
--- A step that is not refused takes apart heads in form alone, and keeps its record in form.
+-- A step that is not refused takes apart heads in form alone, and leaves record and touched cell in form.
 pub heads-formed : (file cells : List ℕ) (n i : ℕ) (t : Task) → HeadsInForm file cells n i t
 heads-formed = heads-in-form
 
 pub form-kept : (file cells : List ℕ) (n i : ℕ) (t : Task) → KeepsForm file cells n i t
 form-kept = keeps-form
+
+pub cell-left-formed : (file cells : List ℕ) (n i : ℕ) (t : Task) → LeavesInForm file cells n i t
+cell-left-formed = leaves-in-form
 
 -- ---- Start
 

@@ -134,7 +134,7 @@ pub record StepTested (file cells : List ℕ) (n i : ℕ) : Type 0 where
   pub long : length cells ≡ n + 1
   pub below : i < n
 
--- Those of a begin are: 1, 2, 3, 5, 7, 8, and 4 on its operation's entries.
+-- The tests of a begin before 11 are passed: 1, 2, 3, 5, 7, 8, and 4 on its operation's entries.
 pub record BeginTested (file : List ℕ) (n i o : ℕ) : Type 0 where
   pub accepted : layoutOf file ≡ table.Accepted (shapeOf file)
   pub some : 1 ≤ n
@@ -152,7 +152,7 @@ abbrev pub BeginRecordJudged : List ℕ → (n i o : ℕ) → Task → Type 0
 BeginRecordJudged file n i o t =
     BeginTested file n i o → (beginSaid (beginTask file n i o t .answer) ≡ Refused 11) ↔ (FitsTable file n t → ⊥)
 
--- The cell that a step of a pending record touches is in form for n tasks.
+-- The cell that a step touches is in form for n tasks, in these cells.
 abbrev pub TouchedFits : (file cells : List ℕ) (n i : ℕ) → Task → Type 0
 TouchedFits file cells n i t =
     let k = touched (accessOf file n i t) in CellFits (shapeOf file .states) (shapeOf file .operations) n k (getD cells k 0)
@@ -163,7 +163,7 @@ CellJudged file cells n i t =
     StepTested file cells n i → FitsTable file n t → t .phase ≢ 0
     → (stepSaid (stepTask file cells n i t .answer) ≡ Refused 12) ↔ (TouchedFits file cells n i t → ⊥)
 
--- So a holder above n is refused with 12 in cell 0 if the step touches it, and with 11 in a saved head.
+-- So a holder above n is refused with 12 in cell 0 if the step touches it, and with 11 in the saved head of a pending record.
 abbrev pub HolderAbove : (file cells : List ℕ) (n i : ℕ) → Task → Type 0
 HolderAbove file cells n i t =
     StepTested file cells n i → FitsTable file n t → t .phase ≢ 0
@@ -177,18 +177,23 @@ abbrev pub BeginHolderAbove : List ℕ → (n i o : ℕ) → Task → Type 0
 BeginHolderAbove file n i o t =
     BeginTested file n i o → t .phase ≢ 0 → n < holderIn (t .head) → beginSaid (beginTask file n i o t .answer) ≡ Refused 11
 
--- A step that is not refused takes apart heads in form alone: the saved one is, and so is the one in cell 0 if the step touches it.
+-- If a step is not refused, the saved head was in form, and so was cell 0 if the step touched it. It looks at no other head.
 abbrev pub HeadsInForm : (file cells : List ℕ) (n i : ℕ) → Task → Type 0
 HeadsInForm file cells n i t =
     Unrefused (stepTask file cells n i t .answer)
     → (headInForm (shapeOf file .states) n (t .head) ≡ true)
     × (touched (accessOf file n i t) ≡ 0 → headInForm (shapeOf file .states) n (getD cells 0 0) ≡ true)
 
--- It leaves a record in form, on whatever cells, if the record's count is still below the ceiling.
+-- A step that is not refused leaves a record in form, whatever the cells hold, as long as its count is below the ceiling.
 abbrev pub KeepsForm : (file cells : List ℕ) (n i : ℕ) → Task → Type 0
 KeepsForm file cells n i t =
     Unrefused (stepTask file cells n i t .answer)
     → stepTask file cells n i t .task .steps < 1000 * (n * n * n) → FitsTable file n (stepTask file cells n i t .task)
+
+-- With a file of bytes it leaves the cell that it touched in form.
+abbrev pub LeavesInForm : (file cells : List ℕ) (n i : ℕ) → Task → Type 0
+LeavesInForm file cells n i t =
+    Bytes file → Unrefused (stepTask file cells n i t .answer) → TouchedFits file (stepTask file cells n i t .cells) n i t
 
 -- ---- Start
 

@@ -5,3 +5,4 @@ pub mod Plans
 pub mod Nexts
 pub mod Lawful
 pub mod NextForms
+pub mod WrittenForms

@@ -194,7 +194,7 @@ fn holder_of(head: u64) -> usize {
     (head >> 24 & 0xf) as usize
 }
 
-/// A free head with a holder, with each response and moved bit beside it; holder 0 has 0 for both.
+/// A free head with a holder, with response 0 or 255 and either moved bit beside it; holder 0 has 0 for both.
 fn heads_held_by(holder: u64, free: u64) -> Vec<u64> {
     let moved_or_not = |response: u64| [0, 1].map(|moved| moved << 28 | holder << 24 | response << 16 | free);
     match holder {
