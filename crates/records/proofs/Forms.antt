@@ -94,9 +94,9 @@ module _ (shape : Shape) (n c : ℕ) (t : Task) where
   pub pending-by-point : PendingByPoint shape n c t
   unfolding readRecord recordInForm
   pending-by-point pending = (
-      λ (f, e). let read = read-parts f e in let number = known-number (t .phase) f (read .1) in pending-points (number .0) (number .1) (rw (ne-eqb (t .phase) 0 pending) at (read .0)),
-      λ p. let known = number-known (t .phase) (p .numbered) (p .used) in (known .0, rw (ne-eqb (t .phase) 0 pending, points-pending p, known .1)),
-    )
+    λ (f, e). let read = read-parts f e in let number = known-number (t .phase) f (read .1) in pending-points (number .0) (number .1) (rw (ne-eqb (t .phase) 0 pending) at (read .0)),
+    λ p. let known = number-known (t .phase) (p .numbered) (p .used) in (known .0, rw (ne-eqb (t .phase) 0 pending, points-pending p, known .1)),
+  )
 
   -- The idle form.
   idle-points : idleInForm n t ≡ true → (t .priority < n) × (t .head ≡ 0) × (t .announcement ≡ 0) × (t .payload ≡ 0) × (t .steps ≡ 0) × (t .operation ≡ 0)
@@ -117,10 +117,10 @@ module _ (shape : Shape) (n c : ℕ) (t : Task) where
   pub idle-by-point : IdleByPoint shape n c t
   unfolding recordInForm
   idle-by-point idle = (
-      λ (f, e). let (priority, head, announcement, payload, steps, operation) = idle-points (rw (eq-eqb (t .phase) 0 idle) at (read-parts f e .0)) in
+    λ (f, e). let (priority, head, announcement, payload, steps, operation) = idle-points (rw (eq-eqb (t .phase) 0 idle) at (read-parts f e .0)) in
         (priority, λ k. record { head = head k; announcement = announcement k; payload = payload k; steps = steps k; operation = operation k; priority = t .priority; phase = idle k }),
-      λ (priority, same). subst (RecordFits shape n c) (sym same) (_, idle-read shape n c (t .priority) priority),
-    )
+    λ (priority, same). subst (RecordFits shape n c) (sym same) (_, idle-read shape n c (t .priority) priority),
+  )
 
   -- A pending record that is read keeps its points, and its phase works for a task below n.
   module _ (pending : t .phase ≢ 0) (f : Phase) (e : readRecord shape n c t ≡ Known f) where
