@@ -27,7 +27,7 @@ parts true (Known g) f e = (refl, e)
 parts false (Known g) f e = never cc
 parts fits (Refused reason) f e = never cc
 
--- It is refused with 11 alone, if its number is.
+-- It is refused with no other cause than 11, if a number that is no phase's is.
 record-cause : (fits : Bool) (read : PhaseRead) → ((c : Refusal) → read ≡ Refused c → c ≡ cause.Record) → (reason : Refusal) → readInForm fits read ≡ Refused reason → reason ≡ cause.Record
 record-cause true (Known g) only reason e = never cc
 record-cause false (Known g) only reason e = cc

@@ -47,7 +47,7 @@ pendingInForm shape n ceiling t = numbersInForm shape n ceiling t && wordsInForm
 unfoldable pub recordInForm : Shape → (n ceiling : ℕ) → Task → Bool
 recordInForm shape n ceiling t = cond (eqb (t .phase) 0) (idleInForm n t) (pendingInForm shape n ceiling t)
 
--- The phase of a record, if its number is one and the record is in form; else the record is refused with 11.
+-- The phase of a record, if its number is that of a phase and the record is in form; else the record is refused with 11.
 abbrev pub readInForm : Bool → PhaseRead → PhaseRead
 readInForm fits (Known phase) = cond fits (Known phase) (Refused cause.Record)
 readInForm fits (Refused reason) = Refused reason

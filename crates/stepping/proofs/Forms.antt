@@ -57,7 +57,7 @@ left-formed shape n old (Read cell) before written = before
 left-formed shape n old (Write cell w) before written = written
 left-formed shape n old (Swap cell x w) before written = choice (CellFits (shape .states) (shape .operations) n cell) (eqb old x) w old written before
 
--- The record after a step that leads to what is in form, with its count below the ceiling.
+-- The record after a step is in form, if what the step leads to is and the count is below the ceiling.
 next-kept : (shape : Shape) (n c : ℕ) (t : Task) → PendingPoints shape n c t → (x : Next) → NextFormed shape n x → advanceOf n t x .steps < c → RecordFits shape n c (advanceOf n t x)
 next-kept shape n c t own (Go f v h a) saved timely = (f, saved-read shape n saved (t .operation) (t .priority) (t .steps + 1) c (own .operation) (own .priority) timely)
 next-kept shape n c t own Turn saved timely =
@@ -89,7 +89,7 @@ module _ (file cells : List ℕ) (n i : ℕ) (t : Task) where
         subst (RecordFits (p .shape) n (p .ceiling)) (sym served)
         (next-kept (p .shape) n (p .ceiling) t own-points (ledTo file (p .shape) cells i t (p .phase) (access file cells n i t p)) next-passed (subst (λ (own : Task). own .steps < p .ceiling) served timely))
 
-    -- So is the word that it leaves in the touched cell.
+    -- The word that it leaves in the touched cell is in form.
     left : Bytes file → let k = touched (access file cells n i t p) in CellFits (p .shape .states) (p .shape .operations) n k (getD (stepTask file cells n i t .cells) k 0)
     unfolding performOf
     left bytes =
@@ -112,7 +112,7 @@ module _ (file cells : List ℕ) (n i : ℕ) (t : Task) where
       subst (λ (c : ℕ). RecordFits (shapeOf file) n c (stepTask file cells n i t .task)) high
       (subst (λ (shape : Shape). RecordFits shape n (p .ceiling) (stepTask file cells n i t .task)) (shape-is file cells n i t p) fits)
 
-  -- It takes apart heads in form alone.
+  -- The heads that it took apart were in form.
   pub heads-in-form : HeadsInForm file cells n i t
   heads-in-form u =
       let p = passed file cells n i t u in

@@ -43,7 +43,7 @@ module _ (file cells : List ℕ) (n i : ℕ) (t : Task) where
     pub formed : cellInForm shape n (touched (planned shape phase)) (getD cells (touched (planned shape phase)) 0) ≡ true
     pub used : usedInRange file shape t (getD cells (touched (planned shape phase)) 0) phase ≡ true
 
-  -- A test that refuses what fails it was passed; so was one that refuses what passes it.
+  -- A test that refuses what fails it was passed, and one that refuses what passes it was failed.
   tested : (b : Bool) (x : TaskOutcome) (c : Refusal) → Unrefused (cond b x (refuseStep cells t c) .answer) → (b ≡ true) × Unrefused (x .answer)
   tested true x c u = (refl, u)
   tested false x c u = absurd (u c refl)

@@ -98,7 +98,7 @@ saved-holder-refused = saved-holder-above
 pub begin-holder-refused : (file : List ℕ) (n i o : ℕ) (t : Task) → BeginHolderAbove file n i o t
 begin-holder-refused = begin-holder-above
 
--- A step that is not refused takes apart heads in form alone, and leaves record and touched cell in form.
+-- A step that is not refused has found its heads in form, and leaves record and touched cell in form.
 pub heads-formed : (file cells : List ℕ) (n i : ℕ) (t : Task) → HeadsInForm file cells n i t
 heads-formed = heads-in-form
 

@@ -177,7 +177,7 @@ abbrev pub BeginHolderAbove : List ℕ → (n i o : ℕ) → Task → Type 0
 BeginHolderAbove file n i o t =
     BeginTested file n i o → t .phase ≢ 0 → n < holderIn (t .head) → beginSaid (beginTask file n i o t .answer) ≡ Refused 11
 
--- If a step is not refused, the saved head was in form, and so was cell 0 if the step touched it. It looks at no other head.
+-- If a step is not refused, the saved head was in form, and so was cell 0 if the step touched it.
 abbrev pub HeadsInForm : (file cells : List ℕ) (n i : ℕ) → Task → Type 0
 HeadsInForm file cells n i t =
     Unrefused (stepTask file cells n i t .answer)

@@ -76,7 +76,7 @@ module _ (file : List ℕ) (shape : Shape) (bytes : Bytes file) (fitting : Fitti
   unfolding clearedWord
   cleared = head-form (Free (stateIn (headOf (t .head)))) 0 (omega (arith, state-below, fitting .few-states)) (shape .states) n ∙ rw (no-marks, lt-ltb _ _ state-below)
 
-  -- The head after an operation of a task j below n names that task.
+  -- The head after an operation of a task j below n, whose entry is in range.
   applied : (j o : ℕ) → j < n → entryOf file shape (stateIn (headOf (t .head))) o .next < shape .states → headInForm (shape .states) n (appliedWord file shape (t .head) j o) ≡ true
   unfolding appliedWord
   applied j o l next =
