@@ -1,5 +1,5 @@
 -- Which records are refused with 11, and which touched cells with 12: exactly those out of form.
-use mathlib.Core.Path.{_≡_, subst}
+use mathlib.Core.Path.{_≡_, refl, ap, subst}
 use mathlib.Core.Bool.{Bool, true, false, cond, not-eq-not}
 use mathlib.Core.Logic.{_↔_, _≢_}
 use mathlib.Core.List.{List}
@@ -25,13 +25,18 @@ use Rattle.transition.specs.declared.access.Access.{Access}
 use Rattle.transition.specs.declared.access.Next.{Next}
 use Rattle.transition.specs.declared.access.Next.the-variants.{Go, Turn, End}
 use Rattle.transition.specs.Transition.{planOf, usedInRange}
+use Rattle.stepping.specs.declared.answer.Begin.{Begin}
+use Rattle.stepping.specs.declared.answer.BeginAnswer.{BeginAnswer}
 use Rattle.stepping.specs.declared.answer.BeginAnswer.the-variants as answer
-use Rattle.stepping.specs.Step.{touched, cellInForm, answerOf, ledTo, served}
+use Rattle.stepping.specs.declared.answer.StepAnswer.{StepAnswer}
+use Rattle.stepping.specs.declared.answer.StepAnswer.the-variants as step
+use Rattle.stepping.specs.Step.{touched, cellInForm, answerOf, TaskOutcome, ledTo, served}
 use Rattle.stepping.specs.Call.{refuseStep, touch, stepFrom, stepTask, stepSaid, begunTask, refuseBegin, beginFrom, beginTask, beginSaid}
 use Rattle.stepping.specs.Access.{accessOf}
-use Rattle.stepping.specs.Statement.{FitsTable, StepTested, RecordJudged, BeginRecordJudged, TouchedFits, CellJudged, HolderAbove, SavedHolderAbove, BeginHolderAbove}
+use Rattle.stepping.specs.Statement.{FitsTable, StepTested, RecordJudged, BeginRecordJudged, TouchedFits, CellJudged, StepRefused, BeginRefused, HolderAbove, SavedHolderAbove, BeginHolderAbove}
 use Rattle.stepping.proofs.Admission.{ceiling, admits}
 use Rattle.stepping.proofs.Forms.{cell-fits}
+use Rattle.stepping.proofs.Refused.{refused-begin, refused-step}
 
 -- ---- What the parts of a step say
 
@@ -131,6 +136,25 @@ begin-record-judged file n i o t s = (λ e (f, read). by (eqb (t .phase) 0) (rw 
     by true e = never cc
     by false e = let z : _≡_ {A = ℕ} 9 11 = cc in omega arith
 
+-- ---- A number that is said changes nothing
+
+step-left : (file cells : List ℕ) (n i : ℕ) (t : Task) (k : ℕ) → stepSaid (stepTask file cells n i t .answer) ≡ Refused k → StepRefused k file cells n i t
+step-left file cells n i t k said = by (stepTask file cells n i t .answer) refl
+  where
+    by : (a : StepAnswer) → stepTask file cells n i t .answer ≡ a → StepRefused k file cells n i t
+    by step.Running e = let f = rw e at said in never (cc f)
+    by (step.Ended r v c) e = let f = rw e at said in never (cc f)
+    by (step.Refused c) e =
+        let same = refused-step file cells n i t c e in
+        record { said = said; cells-left = ap (λ (out : TaskOutcome). out .cells) same; task-left = ap (λ (out : TaskOutcome). out .task) same }
+
+begin-left : (file : List ℕ) (n i o : ℕ) (t : Task) (k : ℕ) → beginSaid (beginTask file n i o t .answer) ≡ Refused k → BeginRefused k file n i o t
+begin-left file n i o t k said = by (beginTask file n i o t .answer) refl
+  where
+    by : (a : BeginAnswer) → beginTask file n i o t .answer ≡ a → BeginRefused k file n i o t
+    by answer.Begun e = let f = rw e at said in never (cc f)
+    by (answer.Refused c) e = record { said = said; task-left = ap (λ (out : Begin). out .task) (refused-begin t file n i o c e) }
+
 -- ---- A holder above n
 
 -- It makes a head out of form, in a cell and in a record that has saved it.
@@ -142,11 +166,12 @@ saved-above file n t pending h (f, read) = above (shapeOf file .states) n (t .he
 
 pub holder-above : (file cells : List ℕ) (n i : ℕ) (t : Task) → HolderAbove file cells n i t
 holder-above file cells n i t s fits pending touches h =
-    cell-judged file cells n i t s fits pending .1
-    (λ formed. above (shapeOf file .states) n (getD cells 0 0) h (subst (λ k. headInForm (shapeOf file .states) n (getD cells k 0) ≡ true) touches (formed .head touches)))
+    step-left file cells n i t 12
+    (cell-judged file cells n i t s fits pending .1
+    (λ formed. above (shapeOf file .states) n (getD cells 0 0) h (subst (λ k. headInForm (shapeOf file .states) n (getD cells k 0) ≡ true) touches (formed .head touches))))
 
 pub saved-holder-above : (file cells : List ℕ) (n i : ℕ) (t : Task) → SavedHolderAbove file cells n i t
-saved-holder-above file cells n i t s pending h = record-judged file cells n i t s .1 (saved-above file n t pending h)
+saved-holder-above file cells n i t s pending h = step-left file cells n i t 11 (record-judged file cells n i t s .1 (saved-above file n t pending h))
 
 pub begin-holder-above : (file : List ℕ) (n i o : ℕ) (t : Task) → BeginHolderAbove file n i o t
-begin-holder-above file n i o t s pending h = begin-record-judged file n i o t s .1 (saved-above file n t pending h)
+begin-holder-above file n i o t s pending h = begin-left file n i o t 11 (begin-record-judged file n i o t s .1 (saved-above file n t pending h))

@@ -163,19 +163,28 @@ CellJudged file cells n i t =
     StepTested file cells n i → FitsTable file n t → t .phase ≢ 0
     → (stepSaid (stepTask file cells n i t .answer) ≡ Refused 12) ↔ (TouchedFits file cells n i t → ⊥)
 
+-- A step that says a number, and leaves cells and record as they were; a begin that does.
+pub record StepRefused (k : ℕ) (file cells : List ℕ) (n i : ℕ) (t : Task) : Type 0 where
+  pub said : stepSaid (stepTask file cells n i t .answer) ≡ Refused k
+  pub cells-left : stepTask file cells n i t .cells ≡ cells
+  pub task-left : stepTask file cells n i t .task ≡ t
+
+pub record BeginRefused (k : ℕ) (file : List ℕ) (n i o : ℕ) (t : Task) : Type 0 where
+  pub said : beginSaid (beginTask file n i o t .answer) ≡ Refused k
+  pub task-left : beginTask file n i o t .task ≡ t
+
 -- So a holder above n is refused with 12 in cell 0 if the step touches it, and with 11 in the saved head of a pending record.
 abbrev pub HolderAbove : (file cells : List ℕ) (n i : ℕ) → Task → Type 0
 HolderAbove file cells n i t =
     StepTested file cells n i → FitsTable file n t → t .phase ≢ 0
-    → touched (accessOf file n i t) ≡ 0 → n < holderIn (getD cells 0 0) → stepSaid (stepTask file cells n i t .answer) ≡ Refused 12
+    → touched (accessOf file n i t) ≡ 0 → n < holderIn (getD cells 0 0) → StepRefused 12 file cells n i t
 
 abbrev pub SavedHolderAbove : (file cells : List ℕ) (n i : ℕ) → Task → Type 0
 SavedHolderAbove file cells n i t =
-    StepTested file cells n i → t .phase ≢ 0 → n < holderIn (t .head) → stepSaid (stepTask file cells n i t .answer) ≡ Refused 11
+    StepTested file cells n i → t .phase ≢ 0 → n < holderIn (t .head) → StepRefused 11 file cells n i t
 
 abbrev pub BeginHolderAbove : List ℕ → (n i o : ℕ) → Task → Type 0
-BeginHolderAbove file n i o t =
-    BeginTested file n i o → t .phase ≢ 0 → n < holderIn (t .head) → beginSaid (beginTask file n i o t .answer) ≡ Refused 11
+BeginHolderAbove file n i o t = BeginTested file n i o → t .phase ≢ 0 → n < holderIn (t .head) → BeginRefused 11 file n i o t
 
 -- If a step is not refused, the saved head was in form, and so was cell 0 if the step touched it.
 abbrev pub HeadsInForm : (file cells : List ℕ) (n i : ℕ) → Task → Type 0
