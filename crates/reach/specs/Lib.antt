@@ -1,0 +1,4 @@
+pub mod Walk
+pub mod Order
+pub mod Reached
+pub mod Statement

@@ -1,0 +1,50 @@
+-- What is proved of the order of first meeting: it has the states that can be reached, and is the only list of its kind.
+use mathlib.Core.Path.{_≡_}
+use mathlib.Core.Logic.{_↔_, _⊎_}
+use mathlib.Core.List.{List}
+use Prim.Native.Nat.{ℕ, _<_, _≤_}
+use lib.ListN.{length, getD}
+use Rattle.table.specs.declared.Shape.{Shape}
+use Rattle.table.specs.declared.Checked.the-variants.{Accepted}
+use Rattle.table.specs.File.{Bytes}
+use Rattle.table.specs.Check.{checkOf}
+use Rattle.reach.specs.Walk.{nextOf, Reachable}
+use Rattle.reach.specs.Order.{orderOf}
+
+-- A state stands at some place of a list.
+pub record StandsIn (order : List ℕ) (state : ℕ) : Type 0 where
+  pub place : ℕ
+  pub below : place < length order
+  pub is : getD order place 0 ≡ state
+
+-- An entry is looked at before another one: that of a state at a lower place, or of the same state and a lower operation.
+abbrev pub Before : (place operation otherPlace otherOperation : ℕ) → Type 0
+Before place operation otherPlace otherOperation = (place < otherPlace) ⊎ ((place ≡ otherPlace) × (operation < otherOperation))
+
+-- The state at a place is met first from a state at a lower place: an entry of that state leads to it, and every entry that is
+-- looked at before leads to a state at a lower place than this.
+pub record MetFirst (file : List ℕ) (shape : Shape) (order : List ℕ) (place : ℕ) : Type 0 where
+  pub from : ℕ
+  pub operation : ℕ
+  pub from-before : from < place
+  pub known : operation < shape .operations
+  pub leads : nextOf file shape (getD order from 0) operation ≡ getD order place 0
+  pub first : (earlier other : ℕ) → Before earlier other from operation → other < shape .operations
+      → (lower : ℕ) × (lower < place) × (getD order lower 0 ≡ nextOf file shape (getD order earlier 0) other)
+
+-- The states that can be reached, each once, the start state first and every other one where it is met first.
+pub record FirstMeeting (file : List ℕ) (shape : Shape) (order : List ℕ) : Type 0 where
+  pub some : 0 < length order
+  pub start : getD order 0 0 ≡ shape .start
+  pub once : (place other : ℕ) → place < length order → other < length order → getD order place 0 ≡ getD order other 0 → place ≡ other
+  pub exactly : (state : ℕ) → StandsIn order state ↔ Reachable file shape state
+  pub met : (place : ℕ) → 0 < place → place < length order → MetFirst file shape order place
+
+-- In an accepted table the order is this list, has no more states than the table, and no other list is of this kind.
+pub record Ordered (file : List ℕ) (shape : Shape) : Type 0 where
+  pub first-meeting : FirstMeeting file shape (orderOf file shape)
+  pub few : length (orderOf file shape) ≤ shape .states
+  pub only : (other : List ℕ) → FirstMeeting file shape other → other ≡ orderOf file shape
+
+abbrev pub AcceptedOrdered : Type 0
+AcceptedOrdered = (file : List ℕ) (shape : Shape) → Bytes file → checkOf file ≡ Accepted shape → Ordered file shape
