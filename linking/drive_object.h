@@ -1,14 +1,14 @@
 /*
  * The drive object for kernels in C: a table of states and operations that up to eight tasks share through 64-bit
- * cells; and the ring desk, which tells what ring owns a chainage and writes the table of a drive. Link with
- * libdrive_object.a. docs/LINKING.md is the page about linking; table files, cells and refusals stand in
- * docs/FORMATS.md, runs and steps in docs/RUNS.md.
+ * cells; the writer of the one file of an object; and the ring desk, which tells what ring owns a chainage and writes
+ * the table of a drive. Link with libdrive_object.a. docs/LINKING.md is the page about linking; table files, cells and
+ * refusals stand in docs/FORMATS.md, runs and steps in docs/RUNS.md.
  *
  * What the caller owes, at every call:
  *  - Lent memory is valid for the whole call, to its given length: `file` and `rings` to be read, `cells`, `row`, the
  *    one record `own` and `room` to be read and written. Cells, row and record are aligned to 8 bytes, rings to 4, and
  *    all of these hold values. With length 0 a pointer may have any value; the one to a record is always valid.
- *  - File, cells, row and record do not overlap, nor do rings and room, and nobody else writes them during the call.
+ *  - What is lent to one call does not overlap, and nobody else writes it during the call.
  *  - Begin and step are called with switching closed: one call ends before the next one starts.
  *  - Handlers that run on the caller's stack leave the 128 bytes below the stack pointer alone.
  * Within a run (an accepted start and the begins and steps after it) nothing but the calls writes cells, row or
@@ -38,6 +38,9 @@ extern "C" {
 
 /* The longest table file in bytes. */
 #define DRIVE_LONGEST_FILE 20496
+
+/* The longest file in bytes that drive_canonical writes, that of 256 states and 32 operations. */
+#define DRIVE_LONGEST_CANONICAL 16400
 
 /* The most rings of a list, and how many words each has: its length and its kind, one of the two below. */
 #define DRIVE_MOST_RINGS 255
@@ -90,6 +93,18 @@ _Static_assert(sizeof(drive_task) == 32, "a record has 32 bytes");
  * Writes nothing. Answers states, operations and start state. Its cost grows with states times operations.
  */
 uint64_t drive_check(const uint8_t *file, size_t file_length);
+
+/*
+ * Writes the one file of the table's object. Tests 1, 2, 3, then 4 on all entries, also those of states that can't be
+ * reached, then 16. The states that can be reached from the start state are numbered in the order of first meeting: the
+ * start state is 0, states are taken in their new order, operations from 0 up; the others are dropped. The file has the
+ * start state 0, no text, and 2 bytes for each of its states and operations and 16 more. Two tables give equal files
+ * exactly if their states that can be reached become the same by renumbering, start to start, responses counted. The file
+ * is written at the beginning of the room, which may hold anything before and doesn't overlap the table; the rest of the
+ * room is left as it was. Answers the length of the file in bytes, which is at most that of the table. Its cost grows
+ * with states times operations.
+ */
+uint64_t drive_canonical(const uint8_t *file, size_t file_length, uint8_t *room, size_t room_length);
 
 /*
  * Starts a run. Tests 1, 2, 3, 4 on all entries, 5, 6. Writes every cell, with the image of the start state, and

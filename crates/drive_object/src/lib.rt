@@ -1,4 +1,5 @@
-// The calls for kernels in C and Rust, and those of the ring desk: each answer is one word.
+// The calls for kernels in C and Rust, that which writes an object's one file, and those of the ring desk: each answer is one
+// word.
 use cells::bit;
 use cells::ceiling;
 use cells::ceiling::Ceiling;
@@ -17,6 +18,7 @@ ghost use Rattle.table.specs.Check.{checkOf};
 ghost use Rattle.stepping.specs.Call.{startOf, beginTask, beginOf, stepTask, stepOf};
 ghost use Rattle.ring_desk.specs.Owner.{ownerOf};
 ghost use Rattle.ring_desk.specs.Table.{tableOf};
+ghost use Rattle.canonical.specs.Canonical.{canonicalWritten};
 ghost use Rattle.drive_object.specs.Word.{wordOf, endedFlags, refusedWord, checkWord, startWord, beginWord, stepWord, ceilingWord, ownerWord, writtenWord};
 
 // The word of a refusal's number, of flags, and of two numbers.
@@ -138,6 +140,14 @@ pub extern "C" fn drive_ceiling(tasks: usize) -> u64
     ensures { λ r. ⌜ r ≡ ceilingWord (ceilingOf tasks) ⌝ }
 {
     ceiling_word(ceiling::ceiling_for(tasks))
+}
+
+// Writes the one file of a table's object at the room's start.
+#[no_mangle]
+pub extern "C" fn drive_canonical(file: &[u8], room: &mut [u8]) -> u64
+    ensures { λ r. ⌜ (now (room .exit) ≡ canonicalWritten (now (file .entry)) (now (room .entry)) .room) × (r ≡ writtenWord (canonicalWritten (now (file .entry)) (now (room .entry)) .answer)) ⌝ }
+{
+    written_word(canonical::write_canonical(file, room))
 }
 
 // Starts a run: fills the cells with the image of the start state, and every record with an idle task.

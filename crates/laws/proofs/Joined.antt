@@ -1,5 +1,5 @@
 -- Lists of one length, one after the other: their length, and the elements of each.
-use mathlib.Core.Path.{_≡_, _∙_}
+use mathlib.Core.Path.{_≡_, refl, _∙_}
 use mathlib.Core.List.{List, _++_}
 use Prim.Native.Nat.{ℕ, zero, suc, _+_, _*_, _<_, _≤_}
 use native.Mathlib.Decide.{ℕ-discrete}
@@ -32,3 +32,9 @@ module _ {A : Type 0} (f : ℕ → List A) (width : ℕ) (wide : (k : ℕ) → l
       by below (no e) =
           let b : suc k ≤ n = omega arith in
           List·getD-append (joined n f) (f n) d (width * k + i) (omega (arith, joined-length n, mul-le-mul-right width b)) ∙ below b l
+
+-- Lists that are the same one by one are the same joined.
+pub joined-same : {A : Type 0} (f g : ℕ → List A) (n : ℕ) → ((k : ℕ) → k < n → f k ≡ g k) → joined n f ≡ joined n g
+unfolding joined
+joined-same f g zero same = refl
+joined-same f g (suc n) same = rw (joined-same f g n (λ k h. same k (omega arith)), same n (omega arith))

@@ -8,7 +8,7 @@ use native.Mathlib.Omega.{arith}
 use borrow.Author.Tests.{ltb-true, ltb-false}
 use lib.Dec.{ltb}
 use lib.ListN.{length, getD, take, drop, set, replicate, length-drop, replicate-append-replicate}
-use lib.Seq.{getD-set-same, length-take-le, set-out, take-all, take-at, take-suc-set, sets}
+use lib.Seq.{getD-set-same, length-take-le, set-out, take-all, take-at, take-suc-set, sets, sets-eq}
 
 -- All that follows a place is the rest of the list.
 pub to-the-end : (xs : List ℕ) (k : ℕ) → take (length xs - k) (drop k xs) ≡ drop k xs
@@ -50,6 +50,12 @@ sets-more l i (x ∷ first) second =
 pub sets-then : {A : Type 0} (l : List A) (i : ℕ) (first second : List A) {j : ℕ} {once twice : List A}
     → once ≡ sets l i first → j ≡ i + length first → twice ≡ sets once j second → twice ≡ sets l i (first ++ second)
 sets-then l i first second e h f = f ∙ rw (e, h) (sets-more l i first second)
+
+-- A list that is written from the start stands there, and after it the rest as it was.
+pub written-over : {A : Type 0} (new old : List A) → length new ≤ length old → sets old 0 new ≡ new ++ drop (length new) old
+written-over new old fits =
+    let z : 0 + length new ≡ length new = omega arith in
+    sets-eq new old 0 (omega arith) ∙ ap (λ (n : ℕ). new ++ drop n old) z
 
 -- What holds of all elements, and of the value past the end: at the end of a list, of one element more, and of two lists.
 module _ {A : Type 0} (P : A → Type 0) (d : A) where

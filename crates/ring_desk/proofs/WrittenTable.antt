@@ -6,7 +6,6 @@ use Prim.Native.Nat.{ℕ, _+_, _*_, _<_, _≤_}
 use native.Mathlib.Decide.{decLt}
 use native.Mathlib.Omega.{arith}
 use lib.ListN.{length, drop}
-use lib.Seq.{sets, sets-eq}
 use Rattle.refusal.specs.declared.Refusal.the-variants.{Rings, Room}
 use Rattle.refusal.specs.declared.Written.the-variants.{Length}
 use Rattle.refusal.specs.Number.{accepted, refusedBy}
@@ -24,12 +23,6 @@ use Rattle.ring_desk.proofs.Answers.{no-range}
 pub file-long : (rings : ℕ) → length (deskFile rings) ≡ 6 * rings + 22
 unfolding deskFile
 file-long rings = omega (arith, written-length (rings + 1) deskOperations 0 (deskEntry rings))
-
--- A file written from the room's start stands there, and after it the rest as it was.
-pub written-over : (file room : List ℕ) → length file ≤ length room → sets room 0 file ≡ file ++ drop (length file) room
-written-over file room fits =
-    let z : 0 + length file ≡ length file = omega arith in
-    sets-eq file room 0 (omega arith) ∙ ap (λ (n : ℕ). file ++ drop n room) z
 
 module _ (rings room : List ℕ) where
   pub table-no-range : ringsFit rings ≡ false → tableOf rings room ≡ notWritten Rings room

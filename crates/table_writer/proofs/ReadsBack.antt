@@ -1,12 +1,12 @@
 -- A file that is written reads back as what was written.
 use mathlib.Core.Path.{_≡_, refl, sym, ap, _∙_}
-use mathlib.Core.List.{List}
+use mathlib.Core.List.{List, _++_}
 use Prim.Native.Nat.{ℕ, suc, _+_, _*_, _%_, _<_, _≤_}
 use native.Mathlib.Nat.{mul-le-mul-right}
 use native.Mathlib.Omega.{arith}
 use lib.ListN.{length, List·getD-append}
 use Rattle.laws.proofs.Lists.{append-all}
-use Rattle.laws.proofs.Joined.{joined-length, joined-at, joined-all}
+use Rattle.laws.proofs.Joined.{joined-length, joined-at, joined-all, joined-same}
 use Rattle.table.specs.declared.Entry.{Entry}
 use Rattle.table.specs.declared.Checked.the-variants.{Accepted}
 use Rattle.table.specs.File.{byteAt, Bytes}
@@ -21,7 +21,7 @@ use Rattle.table_writer.proofs.Trailers.{file-length, trailer-reads, tw
 
 -- ---- The entries
 
-state-length : (m : ℕ) (entry : ℕ → Entry) → length (stateBytes m entry) ≡ entryBytes * m
+pub state-length : (m : ℕ) (entry : ℕ → Entry) → length (stateBytes m entry) ≡ entryBytes * m
 state-length m entry = joined-length (λ o. entryBytesOf (entry o)) entryBytes (λ _. refl) m
 
 pub entries-length : (s m : ℕ) (entry : ℕ → ℕ → Entry) → length (entriesOf s m entry) ≡ entryBytes * (s * m)
@@ -30,6 +30,13 @@ entries-length s m entry =
     omega arith
 
 -- ---- The file
+
+-- Tables with the same entries have one file.
+pub same-file : (s m start : ℕ) (one other : ℕ → ℕ → Entry) → ((q o : ℕ) → q < s → o < m → one q o ≡ other q o) → fileOf s m start one ≡ fileOf s m start other
+unfolding fileOf
+same-file s m start one other same =
+    ap (λ (front : List ℕ). front ++ trailerOf (plainShape s m start))
+    (joined-same (λ q. stateBytes m (one q)) (λ q. stateBytes m (other q)) s (λ q h. joined-same (λ o. entryBytesOf (one q o)) (λ o. entryBytesOf (other q o)) m (λ o l. ap entryBytesOf (same q o h l))))
 
 module _ (s m start : ℕ) (entry : ℕ → ℕ → Entry) where
   pub written-length : length (fileOf s m start entry) ≡ fileLength (plainShape s m start)

@@ -4,6 +4,7 @@ use crate::Task;
 
 extern "C" {
     fn drive_check(file: *const u8, file_length: usize) -> u64;
+    fn drive_canonical(file: *const u8, file_length: usize, room: *mut u8, room_length: usize) -> u64;
     fn drive_start(
         file: *const u8,
         file_length: usize,
@@ -58,6 +59,12 @@ extern "C" {
 pub fn check(file: &[u8]) -> u64 {
     // SAFETY: see above.
     unsafe { drive_check(file.as_ptr(), file.len()) }
+}
+
+#[inline]
+pub fn write_canonical(file: &[u8], room: &mut [u8]) -> u64 {
+    // SAFETY: see above.
+    unsafe { drive_canonical(file.as_ptr(), file.len(), room.as_mut_ptr(), room.len()) }
 }
 
 #[inline]

@@ -1,6 +1,7 @@
 //! The drive object for kernels in Rust: a table of states and operations that up to eight tasks share through 64-bit
-//! cells; and the ring desk, which tells what ring owns a chainage and writes the table of a drive. `docs/LINKING.md` is the
-//! page about linking; table files, cells and refusals stand in `docs/FORMATS.md`, runs and steps in `docs/RUNS.md`.
+//! cells; the writer of the one file of an object; and the ring desk, which tells what ring owns a chainage and writes the
+//! table of a drive. `docs/LINKING.md` is the page about linking; table files, cells and refusals stand in
+//! `docs/FORMATS.md`, runs and steps in `docs/RUNS.md`.
 //!
 //! The borrows say most of what a caller owes: what is lent is valid for the whole call, does not overlap, and nobody else
 //! writes it meanwhile. What is left to the kernel:
@@ -26,6 +27,9 @@ pub const MOST_TASKS: usize = 8;
 
 /// The longest table file in bytes.
 pub const LONGEST_FILE: usize = 20_496;
+
+/// The longest file in bytes that [`write_canonical`] writes, that of 256 states and 32 operations.
+pub const LONGEST_CANONICAL: usize = 16_400;
 
 /// The most rings of a list.
 pub const MOST_RINGS: usize = 255;
@@ -71,6 +75,22 @@ const _: () = assert!(size_of::<Task>() == 32 && align_of::<Task>() == 8);
 #[inline]
 pub fn check(file: &[u8]) -> Result<Shape, Refusal> {
     answer::shape(foreign::check(file))
+}
+
+/// Writes the one file of a table's object; the length of the file in bytes. Tests 1, 2, 3, then 4 on all entries, also
+/// those of states that can't be reached, then 16.
+///
+/// The states that can be reached from the start state are numbered in the order of first meeting: the start state is 0,
+/// states are taken in their new order, operations from 0 up; the others are dropped. The file has the start state 0, no
+/// text, and 2 bytes for each of its states and operations and 16 more, so it is at most as long as the table. Two tables
+/// give equal files exactly if their states that can be reached become the same by renumbering, start to start, responses
+/// counted.
+///
+/// Writes the file at the beginning of the room, which may hold anything before, and leaves the rest of it. Its cost grows
+/// with states times operations.
+#[inline]
+pub fn write_canonical(file: &[u8], room: &mut [u8]) -> Result<u32, Refusal> {
+    answer::high_number(foreign::write_canonical(file, room))
 }
 
 /// Starts a run. Tests 1, 2, 3, 4 on all entries, 5, 6.

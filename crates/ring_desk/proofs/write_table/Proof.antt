@@ -6,12 +6,13 @@ use native.Mathlib.Omega.{arith}
 use borrow.Author.Needs.{needs}
 use borrow.Author.Tests.{not-true, not-false}
 use lib.ListN.{length, drop}
+use Rattle.laws.proofs.Lists.{written-over}
 use Rattle.refusal.specs.declared.Written.the-variants as written
 use Rattle.refusal.specs.Written.{Writing}
 use Rattle.ring_desk.specs.Rings.{mostRings, ringCount, ringsFit}
 use Rattle.ring_desk.specs.Table.{deskFile}
 use Rattle.ring_desk.proofs.Ranges.{fits-range}
-use Rattle.ring_desk.proofs.WrittenTable.{file-long, written-over, table-no-range, table-no-room, table-written}
+use Rattle.ring_desk.proofs.WrittenTable.{file-long, table-no-range, table-no-room, table-written}
 use Rattle.ring_desk.proofs.write_table.Statement.{statement}
 use Rattle.ring_desk.proofs.write_table.Tie as tie
 

@@ -1,0 +1,4 @@
+pub mod Same
+pub mod Canonical
+pub mod Statement
+pub mod Cases
