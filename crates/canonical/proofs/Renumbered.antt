@@ -24,7 +24,7 @@ use Rattle.reach.proofs.Turns.{order-closed}
 use Rattle.reach.proofs.Ordered.{accepted-closed, accepted-ordered, reachable-listed, listed-reachable, order-once, reachable-below}
 use Rattle.canonical.specs.Same.{operationsOf, startOf, nextIn, responseIn, ReachableIn, Same}
 use Rattle.canonical.specs.Canonical.{renumberedEntry, renumberedShape, renumbered, canonicalOf}
-use Rattle.canonical.specs.Statement.{Served, Renumbered, Canonical}
+use Rattle.canonical.specs.Statement.{Served, Renumbered, Canonical, ServedCanonical}
 
 module _ (file : List ℕ) (served : Served file) where
   abbrev shape : Shape
