@@ -1,0 +1,172 @@
+//! The canonical writer, compared with the second program: written files with all that stands around them, refusals, and
+//! pairs of tables, which have equal files exactly if the second program finds a renumbering.
+
+use std::collections::BTreeSet;
+
+use drive_object::{Refusal, Shape, LONGEST_CANONICAL};
+use reference::canonical::{self, canonical};
+use reference::canonical_cases::{
+    damaged_table, fixed_pairs, fixed_tables, random_pair, rooms, written_length, Pair, RANDOM_DAMAGED,
+    RANDOM_PAIRS,
+};
+use reference::refusal;
+use reference::renumbering::{reachable, same};
+use reference::table::Table;
+use reference::table_cases::{self, Case};
+
+/// Bytes before and behind a lent room.
+const MARGIN: usize = 8;
+
+/// Of the files of table cases these many are generated.
+const RANDOM_FILES: u64 = 2_700;
+/// Of the generated pairs one in so many is written to every room.
+const PAIRS_WITH_ALL_ROOMS: usize = 4;
+
+/// How much was compared, and the numbers of the answers, 0 for an accepted call.
+#[derive(Default)]
+struct Compared {
+    answers: usize,
+    files: usize,
+    numbers: BTreeSet<u8>,
+}
+
+impl Compared {
+    /// The room is filled twice, the second time with the opposite of every bit: a byte that is written differs once.
+    fn write(&mut self, file: &[u8], length: usize, name: &str) {
+        for opposite in [0, u8::MAX] {
+            let filled: Vec<u8> = (0..length + 2 * MARGIN).map(|at| at as u8 ^ opposite).collect();
+            let (mut ours, mut theirs) = (filled.clone(), filled);
+            let lent = MARGIN..MARGIN + length;
+            let answer = drive_object::write_canonical(file, &mut ours[lent.clone()]);
+            let expected = canonical::write_canonical(file, &mut theirs[lent]);
+            let answer = answer.map_err(Refusal::number);
+            assert_eq!(
+                answer,
+                expected.map_err(refusal::Refusal::number),
+                "{name}, a room of {length} bytes"
+            );
+            let differing = ours.iter().zip(&theirs).position(|(our, their)| our != their);
+            assert_eq!(
+                differing, None,
+                "{name}, a room of {length} bytes after {MARGIN} others"
+            );
+            self.answers += 1;
+            self.files += usize::from(answer.is_ok());
+            self.numbers.insert(answer.err().unwrap_or(0));
+        }
+    }
+
+    fn all_rooms(&mut self, file: &[u8], name: &str) {
+        for length in rooms(file) {
+            self.write(file, length, name);
+        }
+    }
+
+    fn print(&self, what: &str) {
+        let (answers, files) = (self.answers, self.files);
+        println!("canonical: {answers} answers and {files} files compared, {what}");
+    }
+}
+
+/// What check answers, by the archive and by the second program; the refusal's number, 0 if it is accepted.
+fn checked(case: &Case) -> u8 {
+    let ours = drive_object::check(&case.file).map_err(Refusal::number);
+    let theirs = Table::check(&case.file).map(|table| Shape {
+        states: table.states as u16,
+        operations: table.operations as u16,
+        start: table.start as u16,
+    });
+    assert_eq!(ours, theirs.map_err(refusal::Refusal::number), "{}", case.name);
+    ours.err().unwrap_or(0)
+}
+
+/// What the archive writes for an accepted file, into a room that is long enough for every one.
+fn written(file: &[u8], name: &str) -> Vec<u8> {
+    let mut room = vec![0; LONGEST_CANONICAL];
+    let length = drive_object::write_canonical(file, &mut room).map_err(Refusal::number);
+    assert_eq!(length.err(), None, "{name}");
+    room.truncate(length.unwrap_or(0) as usize);
+    room
+}
+
+/// The file that the archive writes: the second program's, accepted, with start 0 and the states that can be reached, as
+/// long as these need, and written again the same.
+fn written_and_tested(file: &[u8], name: &str) -> Vec<u8> {
+    let output = written(file, name);
+    assert_eq!(Ok(&output), canonical(file).as_ref(), "{name}");
+    let table = Table::check(file).expect("an accepted file");
+    let shape = Shape {
+        states: reachable(&table).len() as u16,
+        operations: table.operations as u16,
+        start: 0,
+    };
+    assert_eq!(drive_object::check(&output), Ok(shape), "{name}");
+    assert_eq!(output.len(), written_length(&table), "{name}");
+    assert_eq!(written(&output, name), output, "{name}, written again");
+    output
+}
+
+/// Whether the files of a pair are one object: by the search, by the bytes that are written, and by how they were made.
+fn one_object(pair: &Pair) -> bool {
+    let [one, other] = &pair.files;
+    let found = same(one, other);
+    assert_eq!(found, pair.same.unwrap_or(found), "{}", pair.name);
+    let equal = written_and_tested(one, &pair.name) == written_and_tested(other, &pair.name);
+    assert_eq!(equal, found, "{}", pair.name);
+    found
+}
+
+#[test]
+fn files_of_a_pair_are_equal_exactly_if_both_tables_are_one_object() {
+    let generated = (0..RANDOM_PAIRS).map(random_pair);
+    let (mut pairs, mut one) = (0, 0);
+    for pair in fixed_pairs().into_iter().chain(generated) {
+        pairs += 1;
+        one += usize::from(one_object(&pair));
+    }
+    println!("canonical: {pairs} pairs compared, of which {one} are one object");
+}
+
+#[test]
+fn the_longest_written_file_is_as_long_as_said() {
+    let lengths = fixed_tables()
+        .into_iter()
+        .map(|case| written(&case.file, &case.name).len());
+    assert_eq!(lengths.max(), Some(LONGEST_CANONICAL));
+}
+
+#[test]
+fn rooms_are_those_of_the_second_program() {
+    let mut compared = Compared::default();
+    for case in fixed_tables() {
+        compared.all_rooms(&case.file, &case.name);
+    }
+    for seed in (0..RANDOM_PAIRS).step_by(PAIRS_WITH_ALL_ROOMS) {
+        let pair = random_pair(seed);
+        for file in &pair.files {
+            compared.all_rooms(file, &pair.name);
+        }
+    }
+    assert_eq!(compared.numbers, BTreeSet::from([0, 16]));
+    compared.print("of accepted tables in rooms about the lengths of both files");
+}
+
+/// Every refused file is tried with rooms that are too short for anything and with one that is long enough.
+#[test]
+fn refusals_are_those_of_the_second_program() {
+    let mut compared = Compared::default();
+    let mut causes = BTreeSet::new();
+    let generated = (0..RANDOM_FILES).map(table_cases::random_case);
+    let damaged = (0..RANDOM_DAMAGED).map(damaged_table);
+    for case in table_cases::fixed_cases()
+        .into_iter()
+        .chain(generated)
+        .chain(damaged)
+    {
+        causes.insert(checked(&case));
+        compared.all_rooms(&case.file, &case.name);
+    }
+    assert_eq!(causes, BTreeSet::from([0, 1, 2, 3, 4]));
+    assert_eq!(compared.numbers, BTreeSet::from([0, 1, 2, 3, 4, 16]));
+    compared.print("of tables at every limit of 1 to 4");
+}
