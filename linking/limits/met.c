@@ -1,7 +1,7 @@
 /*
  * Runs the calls one instruction at a time, by the processor's trap flag, and prints for each call the most
- * instructions and the most bytes of stack that were met, and where the instructions were. What memset takes is not
- * counted: link with -Wl,--wrap=memset.
+ * instructions and the most bytes of stack that were met, and where the instructions were. What memset and memcpy take
+ * is not counted: link with -Wl,--wrap=memset,--wrap=memcpy.
  */
 #define _GNU_SOURCE
 #include <inttypes.h>
@@ -23,7 +23,7 @@ enum { STEPS = 20000, SAMPLES = 8 };
 /* The numbers of phases are below it. */
 enum { PHASES = 88 };
 
-enum call { CHECK, START, BEGIN, STEP, BEGIN_RECORD, STEP_RECORD, CEILING, OWNER, TABLE, CALLS };
+enum call { CHECK, CANONICAL, START, BEGIN, STEP, BEGIN_RECORD, STEP_RECORD, CEILING, OWNER, TABLE, CALLS };
 
 static struct {
     const char *name;
@@ -32,6 +32,7 @@ static struct {
     const char *where;
 } met[CALLS] = {
     [CHECK] = {.name = "drive_check"},
+    [CANONICAL] = {.name = "drive_canonical"},
     [START] = {.name = "drive_start"},
     [BEGIN] = {.name = "drive_begin"},
     [STEP] = {.name = "drive_step"},
@@ -47,7 +48,7 @@ static volatile struct {
     uintptr_t entry;
     uintptr_t pointer; /* at the call's first instruction */
     uintptr_t lowest;
-    uintptr_t outside; /* at memset's first instruction, until it returns */
+    uintptr_t outside; /* at the first instruction of memset or memcpy, until it returns */
     uint64_t count;
 } watch;
 
@@ -57,6 +58,18 @@ void *__wrap_memset(void *memory, int byte, size_t length) {
         ((volatile uint8_t *)memory)[at] = (uint8_t)byte;
     }
     return memory;
+}
+
+/* Stands for memcpy in the archive's calls. */
+void *__wrap_memcpy(void *restrict to, const void *restrict from, size_t length) {
+    for (size_t at = 0; at < length; at++) {
+        ((volatile uint8_t *)to)[at] = ((const uint8_t *)from)[at];
+    }
+    return to;
+}
+
+static bool is_outside(uintptr_t at) {
+    return at == (uintptr_t)__wrap_memset || at == (uintptr_t)__wrap_memcpy;
 }
 
 /* Comes before every instruction while the flag is set. */
@@ -80,7 +93,7 @@ static void before_instruction(int signal, siginfo_t *information, void *context
         return;
     }
     watch.lowest = pointer < watch.lowest ? pointer : watch.lowest;
-    watch.outside = at == (uintptr_t)__wrap_memset ? pointer : 0;
+    watch.outside = is_outside(at) ? pointer : 0;
     watch.count += watch.outside == 0;
 }
 
@@ -204,6 +217,14 @@ static void start_and_begins(size_t tasks) {
     WATCHED(BEGIN_RECORD, where, drive_begin_record, file, file_length, tasks, 0, READING, &own);
 }
 
+/* All states of the largest table can be reached, so its file is the longest. */
+static void table_calls(void) {
+    static uint8_t room[DRIVE_LONGEST_CANONICAL];
+    const char *where = "the largest table";
+    WATCHED(CHECK, where, drive_check, file, file_length);
+    WATCHED(CANONICAL, where, drive_canonical, file, file_length, room, sizeof room);
+}
+
 /* The longest lists, asked for an owner of their end and of what lies past it. */
 static void desk_calls(void) {
     static uint32_t rings[2 * DRIVE_MOST_RINGS];
@@ -228,7 +249,7 @@ int main(void) {
     sigaction(SIGTRAP, &action, NULL);
 
     make_table();
-    WATCHED(CHECK, "the largest table", drive_check, file, file_length);
+    table_calls();
     desk_calls();
     for (size_t tasks = 1; tasks <= DRIVE_MOST_TASKS; tasks++) {
         WATCHED(CEILING, "an accepted call", drive_ceiling, tasks);

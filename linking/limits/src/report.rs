@@ -6,8 +6,9 @@ use crate::survey::Limits;
 use crate::turns::{Turn, Turns};
 
 /// The exported calls, in the page's order.
-pub const CALLS: [&str; 9] = [
+pub const CALLS: [&str; 10] = [
     "drive_check",
+    "drive_canonical",
     "drive_start",
     "drive_begin",
     "drive_step",

@@ -22,6 +22,10 @@ const OPERATIONS: Turn = Turn {
     most: 32,
     over: "operations",
 };
+const OPERATIONS_OF_EACH: Turn = Turn {
+    depth: 2,
+    ..OPERATIONS
+};
 const STATES: Turn = Turn {
     depth: 1,
     most: 256,
@@ -42,8 +46,19 @@ const RINGS: Turn = Turn {
 };
 
 /// Tests come before the loops: 2 holds states and operations to these numbers, 5 the records, 14 the rings.
-pub const GIVEN: [Turns<'static>; 5] = [
+pub const GIVEN: [Turns<'static>; 6] = [
     ("drive_check", &[OPERATIONS, STATES_OF_EACH]),
+    (
+        "drive_canonical",
+        &[
+            OPERATIONS,
+            STATES_OF_EACH,
+            STATES,
+            OPERATIONS_OF_EACH,
+            STATES,
+            OPERATIONS_OF_EACH,
+        ],
+    ),
     ("drive_start", &[OPERATIONS, STATES_OF_EACH, RECORDS, RECORDS]),
     ("stepping::call::begin_task", &[STATES, STATES]),
     ("desk_owner", &[RINGS, RINGS]),
