@@ -14,6 +14,7 @@ use Rattle.table.specs.File.{Bytes}
 use Rattle.table.specs.Entries.{entryOf, entryInRange, operationInRange, entriesInRange}
 use Rattle.table.specs.Layout.{layoutOf}
 use Rattle.table.specs.Check.{withEntries, checkOf}
+use Rattle.table.specs.Statement.{AllInRange}
 use Rattle.table.proofs.Fitting.{Fitting, layout-fitting, fitting-layout, refused}
 
 module _ (file : List ℕ) (shape : Shape) where
@@ -57,14 +58,19 @@ module _ (file : List ℕ) (shape : Shape) where
     accepted-entry state operation q o = operation-entry operation (accepted-operation operation o) state q
 
     -- Every next state is one of the table's states.
-    pub accepted-next : (state operation : ℕ) → state < shape .states → operation < shape .operations → entryOf file shape state operation .next < shape .states
+    pub accepted-next : AllInRange file shape
     accepted-next state operation q o = next-below state operation (accepted-entry state operation q o)
 
+  -- The test says that every entry is in range if it is.
+  pub all-tested : AllInRange file shape → entriesInRange file shape ≡ true
+  unfolding entriesInRange operationInRange entryInRange
+  all-tested all =
+      all-of (shape .operations) (operationInRange file shape) (λ operation o. all-of (shape .states) (λ state. entryInRange file shape state operation) (λ state q. lt-ltb _ _ (all state operation q o)))
+
   -- A file of which none of causes 1 to 4 holds is accepted.
-  pub fitting-accepted : Fitting file shape → ((state operation : ℕ) → state < shape .states → operation < shape .operations → entryOf file shape state operation .next < shape .states) → checkOf file ≡ Accepted shape
-  unfolding checkOf entriesInRange operationInRange entryInRange
-  fitting-accepted fitting below =
-      simp (fitting-layout file shape fitting, all-of (shape .operations) (operationInRange file shape) (λ operation o. all-of (shape .states) (λ state. entryInRange file shape state operation) (λ state q. lt-ltb _ _ (below state operation q o))))
+  pub fitting-accepted : Fitting file shape → AllInRange file shape → checkOf file ≡ Accepted shape
+  unfolding checkOf
+  fitting-accepted fitting all = simp (fitting-layout file shape fitting, all-tested all)
 
   -- A response is a byte.
   pub response-byte : Bytes file → (state operation : ℕ) → entryOf file shape state operation .response < 256

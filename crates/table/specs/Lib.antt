@@ -3,3 +3,4 @@ pub mod Layout
 pub mod Entries
 pub mod Check
 pub mod Cases
+pub mod Statement
