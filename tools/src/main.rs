@@ -1,9 +1,11 @@
 //! `drive`: looks at objects, runs and rings through the proved library, for people. What it shows of a call is what the
 //! archive answered and left.
 
+mod canonical;
 mod ceiling;
 mod chart;
 mod check;
+mod difference;
 mod legend;
 mod lines;
 mod names;
@@ -18,6 +20,8 @@ mod refused;
 mod reply;
 mod ring_table;
 mod rings;
+mod room;
+mod same;
 mod session;
 mod show;
 mod svg;
@@ -33,13 +37,21 @@ use std::process::ExitCode;
 use drive_object::LONGEST_FILE;
 
 /// The forms of the commands, and what each gives.
-const FORMS: [(&str, &str); 10] = [
+const FORMS: [(&str, &str); 12] = [
     (
         "check TABLE",
         "the shape of an object file, and which operations change the state",
     ),
     ("show TABLE", "an object file as text"),
     ("table TEXT > TABLE", "the object file of such a text"),
+    (
+        "canonical TABLE > TABLE2",
+        "the one file of its object: states by first meeting, no text",
+    ),
+    (
+        "same A B",
+        "whether two object files are one object, and if not, why",
+    ),
     ("run TABLE LINES", "the bench's lines, each with what happened"),
     (
         "picture TABLE LINES > X.svg",
@@ -62,11 +74,29 @@ const FIRST: &str =
     "drive looks at objects that tasks share, at their runs, and at rings, through the proved library.\n\n";
 
 const LAST: &str = "
-TABLE, TEXT, LINES and RINGS are files; - is the standard input. docs/FORMATS.md says what a table and the bench's lines are,
-tools/README.md what the texts of an object and of rings are. CHAINAGE is in whole millimetres.
+TABLE, A, B, TEXT, LINES and RINGS are files; - is the standard input. docs/FORMATS.md says what a table and the bench's lines
+are, tools/README.md what the texts of an object and of rings are. CHAINAGE is in whole millimetres.
 Exit status: 0, or 1 if something was refused or could not be read; the reason then stands on the standard error. A line
-of a run that is refused is part of its story, and no error.
+of a run that is refused is part of its story, and no error. If A and B are not one object, the exit status is 2.
 ";
+
+/// The exit status of a command that answers no.
+const NO: u8 = 2;
+
+/// What a command prints, and its exit status.
+struct Answer {
+    bytes: Vec<u8>,
+    status: u8,
+}
+
+impl<B: Into<Vec<u8>>> From<B> for Answer {
+    fn from(bytes: B) -> Answer {
+        Answer {
+            bytes: bytes.into(),
+            status: 0,
+        }
+    }
+}
 
 fn help() -> String {
     let forms = FORMS.map(|(form, gives)| format!("  drive {form:<29}{gives}\n"));
@@ -75,8 +105,8 @@ fn help() -> String {
 
 fn main() -> ExitCode {
     let arguments: Vec<OsString> = std::env::args_os().skip(1).collect();
-    match output(&arguments).and_then(|bytes| print(&bytes)) {
-        Ok(()) => ExitCode::SUCCESS,
+    match answer(&arguments).and_then(|answer| print(&answer.bytes).map(|()| answer.status)) {
+        Ok(status) => ExitCode::from(status),
         Err(reason) => {
             eprintln!("drive: {reason}");
             ExitCode::FAILURE
@@ -95,35 +125,51 @@ fn print(bytes: &[u8]) -> Result<(), String> {
     }
 }
 
-/// What a command prints, or why it can't.
-fn output(arguments: &[OsString]) -> Result<Vec<u8>, String> {
+/// What a command answers, or why it can't.
+fn answer(arguments: &[OsString]) -> Result<Answer, String> {
     let words: Vec<&OsStr> = arguments.iter().map(OsString::as_os_str).collect();
-    let command = words.first().and_then(|word| word.to_str()).unwrap_or("");
-    match (command, words.get(1..).unwrap_or(&[])) {
-        (_, rest) if command == "--help" || rest.iter().any(|word| *word == "--help") => {
-            Ok(help().into_bytes())
+    match words.as_slice() {
+        words if words.iter().any(|word| *word == "--help") => Ok(help().into()),
+        [] => Err("no command is given; drive --help lists the commands".into()),
+        [command, word] => answer_to_one(command, word),
+        [command, one, other] => answer_to_two(command, one, other),
+        [command, ..] => Err(other_words(command)),
+    }
+}
+
+/// The commands that take one word.
+fn answer_to_one(command: &OsStr, word: &OsStr) -> Result<Answer, String> {
+    match command.to_str() {
+        Some("check") => check::report(&read_table(word)?).map(Answer::from),
+        Some("show") => show::text_of(&read_table(word)?).map(Answer::from),
+        Some("table") => table::file_of(&read(word)?).map(Answer::from),
+        Some("canonical") => canonical::file_of(&read_table(word)?, "the table").map(Answer::from),
+        Some("ring-table") => ring_table::file_of(&read(word)?).map(Answer::from),
+        Some("ceiling") if word == "--chart" => chart::chart().map(Answer::from),
+        Some("ceiling") => ceiling::report(&word.to_string_lossy()).map(Answer::from),
+        _ => Err(other_words(command)),
+    }
+}
+
+/// The commands that take two words.
+fn answer_to_two(command: &OsStr, one: &OsStr, other: &OsStr) -> Result<Answer, String> {
+    match command.to_str() {
+        Some("owner") => {
+            let chainage = owner::chainage_of(&other.to_string_lossy())?;
+            owner::report(&read(one)?, chainage).map(Answer::from)
         }
-        ("owner", [rings, chainage]) => {
-            let chainage = owner::chainage_of(&chainage.to_string_lossy())?;
-            owner::report(&read(rings)?, chainage).map(String::into_bytes)
+        _ if one == "-" && other == "-" => Err("the standard input can be only one of the files".into()),
+        Some("same") => {
+            let (line, yes) = same::report(&[named_table(one)?, named_table(other)?])?;
+            let status = if yes { 0 } else { NO };
+            Ok(Answer {
+                status,
+                ..Answer::from(line)
+            })
         }
-        (_, [one, other]) if one == other && *one == "-" => {
-            Err("the standard input can be only one of the files".into())
-        }
-        ("check", [table]) => check::report(&read_table(table)?).map(String::into_bytes),
-        ("show", [table]) => show::text_of(&read_table(table)?).map(String::into_bytes),
-        ("table", [text]) => table::file_of(&read(text)?),
-        ("ring-table", [rings]) => ring_table::file_of(&read(rings)?),
-        ("run", [table, lines]) => {
-            narrative::story(&read_table(table)?, &read(lines)?).map(String::into_bytes)
-        }
-        ("picture", [table, lines]) => {
-            picture::timeline(&read_table(table)?, &read(lines)?).map(String::into_bytes)
-        }
-        ("ceiling", [word]) if *word == "--chart" => chart::chart().map(String::into_bytes),
-        ("ceiling", [tasks]) => ceiling::report(&tasks.to_string_lossy()).map(String::into_bytes),
-        _ if words.is_empty() => Err("no command is given; drive --help lists the commands".into()),
-        _ => Err(other_words(words[0])),
+        Some("run") => narrative::story(&read_table(one)?, &read(other)?).map(Answer::from),
+        Some("picture") => picture::timeline(&read_table(one)?, &read(other)?).map(Answer::from),
+        _ => Err(other_words(command)),
     }
 }
 
@@ -139,6 +185,15 @@ fn other_words(command: &OsStr) -> String {
         ),
         false => format!("{} takes other words: {}", command.display(), meant.join(", or ")),
     }
+}
+
+/// A table with the name of its file.
+fn named_table(path: &OsStr) -> Result<same::Table, String> {
+    let name = match path == "-" {
+        true => "the standard input".into(),
+        false => path.display().to_string(),
+    };
+    read_table(path).map(|file| same::Table { name, file })
 }
 
 /// A table that is longer than any that is served is read only as far as shows that.

@@ -2,7 +2,7 @@
 //! `operations:` may list them, in the order of their numbers.
 
 /// The names of one kind, or none: then its members go by their numbers.
-#[derive(Default)]
+#[derive(Default, PartialEq, Eq)]
 pub struct Names {
     names: Vec<String>,
     /// Why a list in the text names nothing.

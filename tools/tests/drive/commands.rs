@@ -2,10 +2,12 @@
 
 use crate::program::drive;
 
-const COMMANDS: [&str; 8] = [
+const COMMANDS: [&str; 10] = [
     "check",
     "show",
     "table",
+    "canonical",
+    "same",
     "run",
     "picture",
     "ceiling",
@@ -37,6 +39,8 @@ fn other_words_are_refused_with_the_right_ones() {
         ("check", "drive check TABLE"),
         ("show", "drive show TABLE"),
         ("table", "drive table TEXT > TABLE"),
+        ("canonical", "drive canonical TABLE > TABLE2"),
+        ("same", "drive same A B"),
         ("run", "drive run TABLE LINES"),
         ("picture", "drive picture TABLE LINES > X.svg"),
         ("ceiling", "drive ceiling N, or drive ceiling --chart > X.svg"),
@@ -61,6 +65,7 @@ fn help_says_what_each_command_gives() {
         assert!(!gives.trim().is_empty());
     }
     assert!(help.contains("\nExit status: 0, or 1 if something was refused or could not be read;"));
+    assert!(help.contains("If A and B are not one object, the exit status is 2.\n"));
     assert_eq!(drive(&["run", "a", "b", "--help"], b"").text(), help);
 }
 
@@ -83,7 +88,7 @@ fn what_cant_be_written_is_said() {
 
 #[test]
 fn the_standard_input_is_one_file() {
-    for command in ["run", "picture"] {
+    for command in ["run", "picture", "same"] {
         let said = drive(&[command, "-", "-"], b"").failure();
         assert_eq!(said, "drive: the standard input can be only one of the files\n");
     }
@@ -100,6 +105,9 @@ fn a_file_that_cant_be_read_is_named() {
         vec!["check", "no/table"],
         vec!["show", "no/table"],
         vec!["table", "no/table"],
+        vec!["canonical", "no/table"],
+        vec!["same", "no/table", "-"],
+        vec!["same", "../crates/bench/data/table.bin", "no/table"],
         vec!["run", "no/table", "-"],
         vec!["picture", "no/table", "-"],
         vec!["owner", "no/table", "0"],
@@ -122,6 +130,7 @@ fn a_dash_is_the_standard_input() {
         vec!["check", table],
         vec!["show", table],
         vec!["table", text],
+        vec!["canonical", table],
         vec!["run", table, lines],
         vec!["picture", table, lines],
         vec!["ring-table", rings],

@@ -18,6 +18,12 @@ impl Ran {
         String::from_utf8(self.out).expect("text")
     }
 
+    /// What a command that answers no prints.
+    pub fn no(self) -> String {
+        assert_eq!((self.status, self.err.as_str()), (2, ""));
+        String::from_utf8(self.out).expect("text")
+    }
+
     /// What a command that fails says; it prints nothing else.
     pub fn failure(self) -> String {
         assert_eq!((self.status, self.out.as_slice()), (1, [].as_slice()));
@@ -27,8 +33,13 @@ impl Ran {
 
 /// Runs `drive` with these words and this standard input.
 pub fn drive(words: &[&str], input: &[u8]) -> Ran {
+    drive_in(".", words, input)
+}
+
+fn drive_in(folder: &str, words: &[&str], input: &[u8]) -> Ran {
     let mut child = Command::new(env!("CARGO_BIN_EXE_drive"))
         .args(words)
+        .current_dir(folder)
         .stdin(Stdio::piped())
         .stdout(Stdio::piped())
         .stderr(Stdio::piped())
@@ -47,13 +58,30 @@ pub fn drive(words: &[&str], input: &[u8]) -> Ran {
     }
 }
 
+/// A path that no other call gives.
+fn own_path() -> String {
+    static PATHS: AtomicUsize = AtomicUsize::new(0);
+    let number = PATHS.fetch_add(1, Ordering::Relaxed);
+    format!("{}/{number}", env!("CARGO_TARGET_TMPDIR"))
+}
+
 /// Runs a command on a table, which is kept in a file meanwhile, and on lines from the standard input.
 pub fn drive_on(command: &str, table: &[u8], lines: &[u8]) -> Ran {
-    static FILES: AtomicUsize = AtomicUsize::new(0);
-    let number = FILES.fetch_add(1, Ordering::Relaxed);
-    let path = format!("{}/table-{number}.bin", env!("CARGO_TARGET_TMPDIR"));
+    let path = format!("{}.bin", own_path());
     std::fs::write(&path, table).expect("a file");
     let ran = drive(&[command, &path, "-"], lines);
     std::fs::remove_file(path).expect("the file was there");
+    ran
+}
+
+/// Runs `drive` in a folder that has these files and no others.
+pub fn drive_among(files: &[(&str, &[u8])], words: &[&str], input: &[u8]) -> Ran {
+    let folder = own_path();
+    std::fs::create_dir_all(&folder).expect("a folder");
+    for (name, bytes) in files {
+        std::fs::write(format!("{folder}/{name}"), bytes).expect("a file");
+    }
+    let ran = drive_in(&folder, words, input);
+    std::fs::remove_dir_all(folder).expect("the folder was there");
     ran
 }

@@ -1,5 +1,6 @@
 //! Owners and tables of rings, compared with the second program.
 
+use crate::page::page_shows;
 use crate::program::drive;
 use crate::tables::{reads_back, report};
 use reference::desk::{owner, ring_table, RING_WORDS};
@@ -259,23 +260,16 @@ fn the_list_can_be_the_standard_input() {
     assert_eq!(drive(&["owner", "-", "4200"], &text).text(), said);
 }
 
-/// In the page a command stands behind `$`, and what it prints below it.
 #[test]
 fn the_page_has_what_the_commands_print() {
-    let page = std::fs::read_to_string("README.md").expect("the page");
-    let shown = |words: &str, printed: &str| {
-        let lines = printed.lines().map(|line| format!("    {line}\n"));
-        let block = format!("    $ drive {words}\n{}", lines.collect::<String>());
-        assert!(page.contains(&block.replace("    \n", "\n")), "{block}");
-    };
     let file = drive(&["ring-table", EXAMPLE], b"").out;
     let checked = drive(&["check", "-"], &file).text();
-    shown("ring-table examples/rings.txt | drive check -", &checked);
-    shown(
+    page_shows("ring-table examples/rings.txt | drive check -", &checked);
+    page_shows(
         "owner examples/rings.txt 4200",
         &drive(&["owner", EXAMPLE, "4200"], b"").text(),
     );
-    shown(
+    page_shows(
         "owner examples/rings.txt 5700",
         &drive(&["owner", EXAMPLE, "5700"], b"").failure(),
     );

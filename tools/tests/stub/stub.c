@@ -4,7 +4,10 @@
  * operation: a changing one leaves replies that moved in the cells and answers that nothing moved, a reading one leaves
  * everything and answers that the state moved. A list with a ring of 1,000 millimetres is refused with 14, chainage 5 with 15,
  * the table of two rings with 16; chainage 6 belongs to ring 9 and any other to the last ring; a table is a text, and that of
- * three rings has more bytes than any room. What drive shows must follow it.
+ * three rings has more bytes than any room. The one file of a table's object is refused with 16 for a table of one byte, and
+ * for one of two bytes it has more bytes than any room; for others it is two states that never change, where operation 0
+ * responds with the number of the call if the table has 28 bytes or more, and after a byte of text if the table has three.
+ * What drive shows must follow it.
  */
 #include <string.h>
 
@@ -15,6 +18,25 @@ enum { READ_ONLY = 1, ANNOUNCE = 2 };
 uint64_t drive_check(const uint8_t *file, size_t file_length) {
     (void)file, (void)file_length;
     return UINT64_C(2) << 16 | UINT64_C(3) << 32 | UINT64_C(1) << 48;
+}
+
+uint64_t drive_canonical(const uint8_t *file, size_t file_length, uint8_t *room, size_t room_length) {
+    static uint8_t calls = 0;
+    (void)file;
+    calls++;
+    if (file_length == 1) {
+        return DRIVE_ROOM;
+    }
+    if (file_length == 2) {
+        return (room_length + 1) << 32;
+    }
+    size_t text = file_length == 3 ? 1 : 0;
+    memset(room, 0, text + 28);
+    for (size_t entry = 3; entry < 6; entry++) {
+        room[text + 2 * entry] = 1;
+    }
+    room[text + 7] = file_length >= 28 ? calls : 0;
+    return (text + 28) << 32;
 }
 
 uint64_t drive_start(const uint8_t *file, size_t file_length, uint64_t *cells, size_t cell_count, drive_task *row,
