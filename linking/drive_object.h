@@ -15,7 +15,7 @@
  * table, and every call is lent the same ones. A kernel may instead keep each record with its task: it takes them out
  * of the row after start, and makes every call for a task with the task's record and the row's number of records.
  * Nothing is asked of task, operation, chainage or any length: a call that can't be served is refused. A call keeps no
- * pointer and allocates nothing. Start calls memset, drive_canonical memset and memcpy, and no call anything else.
+ * pointer and allocates nothing; start and drive_canonical call memset, and no call anything else.
  *
  * Every call answers with one word, which the drive_answer functions below read. Byte 0, the lowest, is 0 if the call
  * is accepted, else the number of the first cause that holds; then everything lent is left as it was. Bits 2 to 7 of

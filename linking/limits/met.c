@@ -1,7 +1,7 @@
 /*
  * Runs the calls one instruction at a time, by the processor's trap flag, and prints for each call the most
- * instructions and the most bytes of stack that were met, and where the instructions were. What memset and memcpy take
- * is not counted: link with -Wl,--wrap=memset,--wrap=memcpy.
+ * instructions and the most bytes of stack that were met, and where the instructions were. What memset takes is not
+ * counted: link with -Wl,--wrap=memset.
  */
 #define _GNU_SOURCE
 #include <inttypes.h>
@@ -48,7 +48,7 @@ static volatile struct {
     uintptr_t entry;
     uintptr_t pointer; /* at the call's first instruction */
     uintptr_t lowest;
-    uintptr_t outside; /* at the first instruction of memset or memcpy, until it returns */
+    uintptr_t outside; /* at memset's first instruction, until it returns */
     uint64_t count;
 } watch;
 
@@ -58,18 +58,6 @@ void *__wrap_memset(void *memory, int byte, size_t length) {
         ((volatile uint8_t *)memory)[at] = (uint8_t)byte;
     }
     return memory;
-}
-
-/* Stands for memcpy in the archive's calls. */
-void *__wrap_memcpy(void *restrict to, const void *restrict from, size_t length) {
-    for (size_t at = 0; at < length; at++) {
-        ((volatile uint8_t *)to)[at] = ((const uint8_t *)from)[at];
-    }
-    return to;
-}
-
-static bool is_outside(uintptr_t at) {
-    return at == (uintptr_t)__wrap_memset || at == (uintptr_t)__wrap_memcpy;
 }
 
 /* Comes before every instruction while the flag is set. */
@@ -93,7 +81,7 @@ static void before_instruction(int signal, siginfo_t *information, void *context
         return;
     }
     watch.lowest = pointer < watch.lowest ? pointer : watch.lowest;
-    watch.outside = is_outside(at) ? pointer : 0;
+    watch.outside = at == (uintptr_t)__wrap_memset ? pointer : 0;
     watch.count += watch.outside == 0;
 }
 

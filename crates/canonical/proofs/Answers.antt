@@ -1,5 +1,6 @@
 -- What the call that writes an object's file answers and leaves, and what that says of two calls.
 use mathlib.Core.Path.{_≡_, refl, sym, ap, subst, _∙_}
+use mathlib.Core.Logic.{inl, inr}
 use mathlib.Core.List.{List, _∷_}
 use Prim.Native.Nat.{ℕ, _<_, _≤_}
 use native.Mathlib.Decide.{decLt}
@@ -25,13 +26,14 @@ use Rattle.table.specs.Layout.{fileLength}
 use Rattle.table.specs.Check.{checkOf, checkSaid}
 use Rattle.table.proofs.Fitting.{refused}
 use Rattle.table.proofs.Accepted.{accepted-fitting}
+use Rattle.table.proofs.Answers.{check-answered}
 use Rattle.table_writer.proofs.ReadsBack.{written-length}
 use Rattle.reach.specs.Order.{orderOf}
 use Rattle.reach.proofs.Turns.{order-few}
 use Rattle.reach.proofs.Ordered.{accepted-closed}
 use Rattle.canonical.specs.Canonical.{renumberedEntry, renumberedShape, renumbered, canonicalOf, whenChecked, canonicalWritten}
-use Rattle.canonical.specs.Statement.{Served, CanonicalAnswered, Wrote, OneFile, WrittenAgain}
-use Rattle.canonical.proofs.Renumbered.{written-served}
+use Rattle.canonical.specs.Statement.{Served, Renumbered, CanonicalAnswered, Wrote, WroteRenumbered, WroteShort, OneFile, WrittenAgain}
+use Rattle.canonical.proofs.Renumbered.{written-served, served-canonical}
 use Rattle.canonical.proofs.OneFile.{same-files, settled}
 
 -- ---- Case by case
@@ -81,23 +83,26 @@ module _ (file room : List ℕ) where
         pair : {a b : Written} {x y : List ℕ} → a ≡ b → x ≡ y → _≡_ {A = Writing} (record { answer = a; room = x }) (record { answer = b; room = y })
         pair p q = rw (p, q)
 
--- ---- The statements
+-- ---- What is answered
 
 module _ (file room : List ℕ) where
+  -- It is refused with 16, or a length is answered.
+  not-refused : {new : List ℕ} {out : Writing} → Writes new room out → (number : ℕ) → 1 ≤ number → writtenSaid (out .answer) ≡ refusedBy number → Dec (length room < length new) → number ≡ 16
+  not-refused whole number some f (yes short) = sym (ap (λ (s : Said). s .number) (sym (whole .no-room .1 short) ∙ f))
+  not-refused whole number some f (no n) = absurd (numbers-apart (sym f ∙ whole .length-written _ .1 (omega arith, refl)) (λ z. omega arith))
+
   served-answered : (shape : Shape) → checkOf file ≡ Accepted shape → CanonicalAnswered file room
   served-answered shape e =
       let whole = subst (Writes (canonicalOf file) room) (sym (accepted-written file room shape e)) (writes-into (canonicalOf file) room) in
+      let room-short : (number : ℕ) → 1 ≤ number → writtenSaid (canonicalWritten file room .answer) ≡ refusedBy number → number ≡ 16 = λ number some f. not-refused whole number some f (decLt (length room) (length (canonicalOf file))) in
       let accepts : (number : ℕ) → 1 ≤ number → checkSaid (checkOf file) ≡ refusedBy number → ⊥ = λ number some f. numbers-apart (ap checkSaid (sym e) ∙ f) (λ z. omega arith) in
       record {
-        refused = λ number some few. (λ f. absurd (not-refused whole number some few f (decLt (length room) (length (canonicalOf file)))), λ f. absurd (accepts number some f));
+        refused = λ number some few. (λ f. absurd (omega (arith, few, room-short number some f)), λ f. absurd (accepts number some f));
         unchanged = λ number some f. absurd (accepts number some f);
+        entries = (λ f. absurd (omega (arith, room-short 4 (omega arith) f)), λ bad. absurd (accepts 4 (omega arith) (check-answered file .entries .1 bad)));
         writes = λ _ _. whole;
+        only = λ number some f. inr (room-short number some f);
       }
-    where
-      -- It is refused with 16, or a length is answered.
-      not-refused : {new : List ℕ} {out : Writing} → Writes new room out → (number : ℕ) → 1 ≤ number → number < 16 → writtenSaid (out .answer) ≡ refusedBy number → Dec (length room < length new) → ⊥
-      not-refused whole number some few f (yes short) = numbers-apart (sym f ∙ whole .no-room .1 short) (λ z. omega arith)
-      not-refused whole number some few f (no n) = numbers-apart (sym f ∙ whole .length-written _ .1 (omega arith, refl)) (λ z. omega arith)
 
   refused-answered : (cause : Refusal) → checkOf file ≡ Refused cause → CanonicalAnswered file room
   refused-answered cause e =
@@ -106,7 +111,9 @@ module _ (file room : List ℕ) where
       record {
         refused = λ number _ _. (λ f. sym both ∙ f, λ f. both ∙ f);
         unchanged = λ _ _ _. ap (λ (w : Writing). w .room) out;
+        entries = (λ f. check-answered file .entries .0 (sym both ∙ f), λ bad. both ∙ check-answered file .entries .1 bad);
         writes = λ shape f. absurd (refused cause shape (sym e ∙ f));
+        only = λ number some f. inl (check-answered file .only number some (sym both ∙ f));
       }
 
   pub canonical-answered : CanonicalAnswered file room
@@ -116,30 +123,55 @@ module _ (file room : List ℕ) where
       by (Accepted shape) e = served-answered shape e
       by (Refused cause) e = refused-answered cause e
 
-  -- A length is answered only for an accepted table, and then its file is written.
-  wrote-served : (written : List ℕ) → Bytes file → Wrote file room written → Served file × (written ≡ canonicalOf file)
-  wrote-served written bytes (length-said, said, taken) = by (checkOf file) refl
+-- ---- What is written
+
+-- A length is answered only for an accepted table, and then its file is written.
+module _ (file room written : List ℕ) (bytes : Bytes file) (wrote : Wrote file room written) where
+  both-known : Served file × (written ≡ canonicalOf file)
+  both-known = by (checkOf file) refl
     where
       by : (checked : Checked) → checkOf file ≡ checked → Served file × (written ≡ canonicalOf file)
       by (Refused cause) e =
-          let none : _≡_ {A = ℕ} 0 1 = ap (λ (s : Said). length (s .values)) (sym (ap (λ (w : Writing). writtenSaid (w .answer)) (refused-written file room cause e)) ∙ said) in
+          let none : _≡_ {A = ℕ} 0 1 = ap (λ (s : Said). length (s .values)) (sym (ap (λ (w : Writing). writtenSaid (w .answer)) (refused-written file room cause e)) ∙ wrote .0) in
           absurd (omega arith)
       by (Accepted shape) e =
-          let whole = canonical-answered .writes shape e in
-          let fits = whole .length-written length-said .0 said in
-          ((bytes, e ∙ ap Accepted (shape-found file shape e)), sym taken ∙ ap (λ (k : ℕ). take k (canonicalWritten file room .room)) (fits .1) ∙ whole .front (fits .0))
+          let whole = canonical-answered file room .writes shape e in
+          let fits = whole .length-written (length written) .0 (wrote .0) in
+          ((bytes, e ∙ ap Accepted (shape-found file shape e)), sym (wrote .1) ∙ ap (λ (k : ℕ). take k (canonicalWritten file room .room)) (fits .1) ∙ whole .front (fits .0))
+
+  served : Served file
+  served = both-known .0
+
+  file-written : written ≡ canonicalOf file
+  file-written = both-known .1
+
+  wrote-short : (length written ≤ length file) × (length written ≤ 16400)
+  wrote-short =
+      let shape : Shape = shapeOf file in
+      let closed = accepted-closed file shape (served .1) in
+      let long : length written ≡ fileLength (renumberedShape shape (orderOf file shape)) = ap length file-written ∙ file-long file shape (served .1) in
+      let fits = accepted-fitting file shape (served .1) in
+      (omega (arith, long, mul-le-mul-right (shape .operations) (order-few file shape closed), fits .adds-up), omega (arith, long, length-small file shape (served .1)))
+
+pub wrote-renumbered : WroteRenumbered
+wrote-renumbered file room written order bytes wrote of-kind =
+    subst (Renumbered file order) (sym (file-written file room written bytes wrote)) (served-canonical file (served file room written bytes wrote) .renumbered order of-kind)
+
+pub written-short : WroteShort
+written-short = wrote-short
 
 pub one-file : OneFile
 one-file one other one-room other-room one-written other-written bytes other-bytes first second =
-    let a = wrote-served one one-room one-written bytes first in
-    let b = wrote-served other other-room other-written other-bytes second in
-    let same = same-files one other (a .0) (b .0) in
-    (λ e. same .1 (sym (a .1) ∙ e ∙ b .1), λ s. a .1 ∙ same .0 s ∙ sym (b .1))
+    let same = same-files one other (served one one-room one-written bytes first) (served other other-room other-written other-bytes second) in
+    let a = file-written one one-room one-written bytes first in
+    let b = file-written other other-room other-written other-bytes second in
+    (λ e. same .1 (sym a ∙ e ∙ b), λ s. a ∙ same .0 s ∙ sym b)
 
 pub written-again : WrittenAgain
 written-again file room written again bytes first fits =
-    let a = wrote-served file room written bytes first in
-    let served = subst Served (sym (a .1)) (written-served file (a .0)) in
-    let same : canonicalOf written ≡ written = ap canonicalOf (a .1) ∙ settled file (a .0) ∙ sym (a .1) in
-    let whole = subst (λ x. Writes x again (canonicalWritten written again)) same (canonical-answered written again .writes (shapeOf written) (served .1)) in
-    (length written, whole .length-written (length written) .1 (fits, refl), whole .front fits)
+    let known = served file room written bytes first in
+    let is = file-written file room written bytes first in
+    let accepted-written = subst Served (sym is) (written-served file known) in
+    let same : canonicalOf written ≡ written = ap canonicalOf is ∙ settled file known ∙ sym is in
+    let whole = subst (λ x. Writes x again (canonicalWritten written again)) same (canonical-answered written again .writes (shapeOf written) (accepted-written .1)) in
+    (whole .length-written (length written) .1 (fits, refl), whole .front fits)

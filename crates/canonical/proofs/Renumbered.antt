@@ -21,7 +21,7 @@ use Rattle.reach.specs.Statement.{Ordered}
 use Rattle.reach.proofs.Places.{place-holds}
 use Rattle.reach.proofs.Search.{Closed, start-reached, next-reached}
 use Rattle.reach.proofs.Turns.{order-closed}
-use Rattle.reach.proofs.Ordered.{accepted-closed, accepted-ordered, reachable-listed, listed-reachable, order-once, reachable-below}
+use Rattle.reach.proofs.Ordered.{accepted-closed, accepted-ordered, reachable-listed, listed-reachable, order-once, order-some, reachable-below}
 use Rattle.canonical.specs.Same.{operationsOf, startOf, nextIn, responseIn, ReachableIn, Same}
 use Rattle.canonical.specs.Canonical.{renumberedEntry, renumberedShape, renumbered, canonicalOf}
 use Rattle.canonical.specs.Statement.{Served, Renumbered, Canonical, ServedCanonical}
@@ -43,7 +43,7 @@ module _ (file : List ℕ) (served : Served file) where
   closed = accepted-closed file shape (served .1)
 
   ordered : Ordered file shape
-  ordered = accepted-ordered file shape (served .0) (served .1)
+  ordered = accepted-ordered file shape (served .1)
 
   listed-next : (number operation : ℕ) → number < length order → operation < shape .operations → placeIn order (nextOf file shape (getD order number 0) operation) < length order
   listed-next = order-closed file shape closed
@@ -53,11 +53,11 @@ module _ (file : List ℕ) (served : Served file) where
   limits : WithinLimits (length order) (shape .operations) 0 (renumberedEntry file shape order)
   limits =
       record {
-        some-state = ordered .first-meeting .some;
+        some-state = order-some file shape closed;
         few-states = omega (arith, ordered .few, fits .few-states);
         some-operation = fits .some-operation;
         few-operations = fits .few-operations;
-        start-below = ordered .first-meeting .some;
+        start-below = order-some file shape closed;
         next-below = listed-next;
         response-byte = λ number operation _ _. response-byte file shape (served .0) (getD order number 0) operation;
       }
@@ -125,7 +125,7 @@ module _ (file : List ℕ) (served : Served file) where
 
   start-place : placeIn order (startOf file) ≡ startOf written
   start-place =
-      let first = order-once file shape closed 0 (ordered .first-meeting .some) in
+      let first = order-once file shape closed 0 (order-some file shape closed) in
       ap (placeIn order) (sym (ordered .first-meeting .start)) ∙ first ∙ sym (ap (λ (s : Shape). s .start) written-shape)
 
   next-place : (state operation : ℕ) → ReachableIn file state → operation < operationsOf file → placeIn order (nextIn file state operation) ≡ nextIn written (placeIn order state) operation

@@ -33,7 +33,7 @@ renumbered file shape order = fileOf (length order) (shape .operations) 0 (renum
 unfoldable pub canonicalOf : List ℕ → List ℕ
 canonicalOf file = renumbered file (shapeOf file) (orderOf file (shapeOf file))
 
--- Cause 16, or the file written into the room, where causes 1 to 4 gave this answer.
+-- Where the tests for causes 1 to 4 gave this answer: their refusal; or else cause 16, or the file written into the room.
 abbrev pub whenChecked : (file room : List ℕ) → Checked → Writing
 whenChecked file room (Accepted _) = writtenInto (canonicalOf file) room
 whenChecked file room (Refused cause) = notWritten cause room

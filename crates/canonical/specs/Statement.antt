@@ -1,6 +1,6 @@
 -- What is proved of the call that writes an object's file.
 use mathlib.Core.Path.{_≡_}
-use mathlib.Core.Logic.{_↔_}
+use mathlib.Core.Logic.{_↔_, _⊎_}
 use mathlib.Core.List.{List, [], _∷_}
 use Prim.Native.Nat.{ℕ, _+_, _*_, _<_, _≤_}
 use lib.ListN.{length, getD, take}
@@ -10,7 +10,9 @@ use Rattle.refusal.specs.Statement.{Writes}
 use Rattle.table.specs.declared.Shape.{Shape}
 use Rattle.table.specs.declared.Checked.the-variants.{Accepted}
 use Rattle.table.specs.File.{Bytes, shapeOf}
+use Rattle.table.specs.Layout.{layoutOf}
 use Rattle.table.specs.Check.{checkOf, checkSaid}
+use Rattle.table.specs.Statement.{AllInRange}
 use Rattle.reach.specs.Statement.{FirstMeeting}
 use Rattle.canonical.specs.Same.{operationsOf, nextIn, responseIn, ReachableIn, Same}
 use Rattle.canonical.specs.Canonical.{canonicalOf, canonicalWritten}
@@ -45,7 +47,7 @@ pub record Canonical (file : List ℕ) : Type 0 where
 abbrev pub ServedCanonical : Type 0
 ServedCanonical = (file : List ℕ) → Served file → Canonical file
 
--- Two tables have equal files exactly if they are the same object; an object's file is its own.
+-- Two tables have equal files exactly if they are the same object; the file of an object's file is that file.
 abbrev pub SameFiles : Type 0
 SameFiles = (one other : List ℕ) → Served one → Served other → Same one other ↔ (canonicalOf one ≡ canonicalOf other)
 
@@ -55,18 +57,29 @@ Settled = (file : List ℕ) → Served file → canonicalOf (canonicalOf file) �
 -- ---- What the call answers
 
 pub record CanonicalAnswered (file room : List ℕ) : Type 0 where
-  -- A number from 1 to 15 exactly if check answers it, and then the room is as it was.
-  pub refused : (number : ℕ) → 1 ≤ number → number < 16 → (writtenSaid (canonicalWritten file room .answer) ≡ refusedBy number) ↔ (checkSaid (checkOf file) ≡ refusedBy number)
+  -- 1 to 4 exactly if check answers it, and then the room is as it was.
+  pub refused : (number : ℕ) → 1 ≤ number → number ≤ 4 → (writtenSaid (canonicalWritten file room .answer) ≡ refusedBy number) ↔ (checkSaid (checkOf file) ≡ refusedBy number)
   pub unchanged : (number : ℕ) → 1 ≤ number → checkSaid (checkOf file) ≡ refusedBy number → canonicalWritten file room .room ≡ room
+  -- 4 exactly if 1 to 3 don't hold and not every entry is in range, whether its state can be reached or not.
+  pub entries : (writtenSaid (canonicalWritten file room .answer) ≡ refusedBy 4) ↔ ((shape : Shape) × (layoutOf file ≡ Accepted shape) × (AllInRange file shape → ⊥))
   -- An accepted table: its file is written into the room, or refused with 16.
   pub writes : (shape : Shape) → checkOf file ≡ Accepted shape → Writes (canonicalOf file) room (canonicalWritten file room)
+  -- No other number is answered.
+  pub only : (number : ℕ) → 1 ≤ number → writtenSaid (canonicalWritten file room .answer) ≡ refusedBy number → (number ≤ 4) ⊎ (number ≡ 16)
 
--- ---- One file for one object, by what the call writes
+-- ---- What the call writes
 
--- A call was accepted and wrote these bytes.
+-- A call answered the length of these bytes, and left them at the room's start.
 abbrev pub Wrote : (file room written : List ℕ) → Type 0
 Wrote file room written =
-    (long : ℕ) × (writtenSaid (canonicalWritten file room .answer) ≡ accepted (long ∷ [])) × (take long (canonicalWritten file room .room) ≡ written)
+    (writtenSaid (canonicalWritten file room .answer) ≡ accepted (length written ∷ [])) × (take (length written) (canonicalWritten file room .room) ≡ written)
+
+-- They are the table in the numbers of first meeting, no longer than the table and than 16,400 bytes.
+abbrev pub WroteRenumbered : Type 0
+WroteRenumbered = (file room written order : List ℕ) → Bytes file → Wrote file room written → FirstMeeting file (shapeOf file) order → Renumbered file order written
+
+abbrev pub WroteShort : Type 0
+WroteShort = (file room written : List ℕ) → Bytes file → Wrote file room written → (length written ≤ length file) × (length written ≤ 16400)
 
 -- Two tables are written as equal bytes exactly if they are the same object.
 abbrev pub OneFile : Type 0

@@ -102,10 +102,12 @@ fn write_accepted(file: &[u8], shape: Shape, room: &mut [u8]) -> Written
     requires { ⌜ checkOf (now file) ≡ Accepted shape ⌝ }
     ensures { λ r. ⌜ (now (room .exit) ≡ canonicalWritten (now (file .entry)) (now (room .entry)) .room) × (r ≡ canonicalWritten (now (file .entry)) (now (room .entry)) .answer) ⌝ }
 {
-    let reached = reach::reach(file, shape);
+    let mut order = [0; 256];
+    let mut number = [0; 256];
+    let count = reach::reach_into(file, shape, &mut order, &mut number);
     let written = Shape {
         offset: 0,
-        states: reached.count,
+        states: count,
         operations: shape.operations,
         start: 0,
     };
@@ -113,8 +115,6 @@ fn write_accepted(file: &[u8], shape: Shape, room: &mut [u8]) -> Written
     if room.len() < length {
         return Written::Refused(Refusal::Room);
     }
-    let order = reached.order;
-    let number = reached.number;
     write_file(room, file, shape, &order, &number, written);
     Written::Length(length as u32)
 }

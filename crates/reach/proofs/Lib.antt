@@ -6,3 +6,4 @@ pub mod Turns
 pub mod OneList
 pub mod Words
 pub mod Ordered
+pub mod Arrays

@@ -54,16 +54,18 @@ module _ (file : List ℕ) (shape : Shape) (closed : Closed file shape) where
   pub order-once : (place : ℕ) → place < length order → placeIn order (getD order place 0) ≡ place
   order-once = searched .once
 
+  pub order-some : 0 < length order
+  order-some = searched .some
+
   -- What can be reached is a state of the table.
   pub reachable-below : (state : ℕ) → Reachable file shape state → state < shape .states
   reachable-below state r =
       let h = reachable-listed state r in
       subst (λ q. q < shape .states) (place-holds state order h) (searched .within (placeIn order state) h)
 
-  first-meeting : FirstMeeting file shape order
+  pub first-meeting : FirstMeeting file shape order
   first-meeting =
       record {
-        some = searched .some;
         start = searched .start;
         once = λ i j h l e. sym (order-once i h) ∙ ap (placeIn order) e ∙ order-once j l;
         exactly = λ state. (λ at. subst (Reachable file shape) (at .is) (listed-reachable (at .place) (at .below)), λ r. order-stands state (reachable-listed state r));
@@ -71,7 +73,7 @@ module _ (file : List ℕ) (shape : Shape) (closed : Closed file shape) where
       }
 
 pub accepted-ordered : AcceptedOrdered
-accepted-ordered file shape _ accepted =
+accepted-ordered file shape accepted =
     let closed = accepted-closed file shape accepted in
     let meets = first-meeting file shape closed in
     record { first-meeting = meets; few = order-few file shape closed; only = λ other of-kind. one-list file shape other (orderOf file shape) of-kind meets }

@@ -1,17 +1,19 @@
 -- The two arrays that keep a list of states, and what they are when a state is put at its end.
 use mathlib.Core.Path.{_≡_, refl, sym, ap, subst, _∙_}
+use mathlib.Core.Bool.{and-false}
 use mathlib.Core.List.{List, [], _∷_, _++_}
 use Prim.Native.Nat.{ℕ, zero, suc, _+_, _-_, _<_, _≤_}
 use native.Mathlib.Decide.{decLt, ℕ-discrete}
 use native.Mathlib.Omega.{arith}
-use borrow.Author.Tests.{lt-ltb, le-ltb, ne-eqb}
+use borrow.Author.Tests.{lt-ltb, le-ltb, eq-eqb, ne-eqb}
 use lib.ListN.{length, getD, take, set, replicate, length-append, length-set, length-replicate, List·getD-append}
 use lib.Seq.{take-append-seam, append-snoc, set-append-seam, getD-set-same, getD-set-other, ext-getD}
 use Rattle.laws.proofs.Tabulate.{tabulate-length, tabulate-at, tabulate-replicate}
+use Rattle.table.specs.declared.Shape.{Shape}
 use Rattle.table.specs.Layout.{mostStates}
 use Rattle.reach.specs.Order.{placeIn, meet}
 use Rattle.reach.specs.declared.Reached.{Reached}
-use Rattle.reach.specs.Reached.{numberIn, orderWords, numberWords, reachedAs, Distinct, Keeps, Kept}
+use Rattle.reach.specs.Reached.{numberIn, orderWords, numberWords, reachedAs, reachedOf, reachedInto, Distinct, Keeps, Kept}
 use Rattle.reach.proofs.Places.{place-bound, place-kept, place-behind, place-last}
 use Rattle.reach.proofs.Meeting.{longer, none-distinct, distinct-few, distinct-room, meet-new}
 
@@ -158,3 +160,23 @@ module _ {order number : List ℕ} {count : ℕ} (kept : Kept order number count
 pub none-kept : Kept (replicate mostStates 0) (replicate mostStates 0) 0
 unfolding orderWords numberWords
 none-kept = record { distinct = none-distinct; keeps = record { order-is = refl; number-is = tabulate-replicate mostStates 0; count-is = refl } }
+
+pub cleared-kept : {order number : List ℕ} (long also : ℕ) → order ≡ replicate long 0 → number ≡ replicate also 0 → long ≡ mostStates → also ≡ mostStates → Kept order number 0
+cleared-kept {order} {number} long also e f k l =
+    let zero-order : order ≡ replicate mostStates 0 = e ∙ ap (λ (n : ℕ). replicate n 0) k in
+    let zero-number : number ≡ replicate mostStates 0 = f ∙ ap (λ (n : ℕ). replicate n 0) l in
+    subst (λ x. Kept x number 0) (sym zero-order) (subst (λ x. Kept (replicate mostStates 0) x 0) (sym zero-number) none-kept)
+
+-- What a search into lent arrays comes to: they stay as they were if one has another length, and are filled otherwise.
+module _ (file : List ℕ) (shape : Shape) (order number : List ℕ) where
+  pub into-other-order : (length order ≡ mostStates → ⊥) → reachedInto file shape order number ≡ record { order = order; number = number; count = 0 }
+  unfolding reachedInto
+  into-other-order other = simp (ne-eqb _ _ other)
+
+  pub into-other-number : (length number ≡ mostStates → ⊥) → reachedInto file shape order number ≡ record { order = order; number = number; count = 0 }
+  unfolding reachedInto
+  into-other-number other = simp (ne-eqb _ _ other, and-false)
+
+  pub into-both : length order ≡ mostStates → length number ≡ mostStates → reachedInto file shape order number ≡ reachedOf file shape
+  unfolding reachedInto
+  into-both long also = simp (eq-eqb _ _ long, eq-eqb _ _ also)

@@ -1,8 +1,9 @@
 -- The order of first meeting as the code keeps it: in two arrays, by place and by state.
 use mathlib.Core.Path.{_≡_}
-use mathlib.Core.Bool.{cond}
+use mathlib.Core.Bool.{cond, _&&_}
 use mathlib.Core.List.{List, _++_}
 use Prim.Native.Nat.{ℕ, suc, _-_, _<_}
+use lib.Dec.{eqb}
 use lib.ListN.{length, getD, take, replicate}
 use Rattle.laws.specs.Tabulate.{tabulate}
 use Rattle.table.specs.declared.Shape.{Shape}
@@ -29,6 +30,11 @@ reachedAs order = record { order = orderWords order; number = numberWords order;
 -- What the search of a table finds.
 abbrev pub reachedOf : List ℕ → Shape → Reached
 reachedOf file shape = reachedAs (orderOf file shape)
+
+-- What the search leaves in lent arrays, and answers: arrays of another length stay as they were.
+unfoldable pub reachedInto : List ℕ → Shape → (order number : List ℕ) → Reached
+reachedInto file shape order number =
+    cond (eqb (length order) mostStates && eqb (length number) mostStates) (reachedOf file shape) (record { order = order; number = number; count = 0 })
 
 -- No number twice, and every one below the greatest number of states.
 pub record Distinct (order : List ℕ) : Type 0 where

@@ -2,14 +2,16 @@
 use mathlib.Core.Path.{_≡_}
 use mathlib.Core.Logic.{_↔_, _⊎_}
 use mathlib.Core.List.{List}
-use Prim.Native.Nat.{ℕ, _<_, _≤_}
-use lib.ListN.{length, getD}
+use Prim.Native.Nat.{ℕ, _+_, _<_, _≤_}
+use lib.ListN.{length, getD, take}
 use Rattle.table.specs.declared.Shape.{Shape}
 use Rattle.table.specs.declared.Checked.the-variants.{Accepted}
-use Rattle.table.specs.File.{Bytes}
+use Rattle.table.specs.Layout.{mostStates}
 use Rattle.table.specs.Check.{checkOf}
 use Rattle.reach.specs.Walk.{nextOf, Reachable}
+use Rattle.reach.specs.declared.Reached.{Reached}
 use Rattle.reach.specs.Order.{orderOf}
+use Rattle.reach.specs.Reached.{reachedOf, reachedInto}
 
 -- A state stands at some place of a list.
 pub record StandsIn (order : List ℕ) (state : ℕ) : Type 0 where
@@ -34,7 +36,6 @@ pub record MetFirst (file : List ℕ) (shape : Shape) (order : List ℕ) (place 
 
 -- The states that can be reached, each once, the start state first and every other one where it is met first.
 pub record FirstMeeting (file : List ℕ) (shape : Shape) (order : List ℕ) : Type 0 where
-  pub some : 0 < length order
   pub start : getD order 0 0 ≡ shape .start
   pub once : (place other : ℕ) → place < length order → other < length order → getD order place 0 ≡ getD order other 0 → place ≡ other
   pub exactly : (state : ℕ) → StandsIn order state ↔ Reachable file shape state
@@ -47,4 +48,17 @@ pub record Ordered (file : List ℕ) (shape : Shape) : Type 0 where
   pub only : (other : List ℕ) → FirstMeeting file shape other → other ≡ orderOf file shape
 
 abbrev pub AcceptedOrdered : Type 0
-AcceptedOrdered = (file : List ℕ) (shape : Shape) → Bytes file → checkOf file ≡ Accepted shape → Ordered file shape
+AcceptedOrdered = (file : List ℕ) (shape : Shape) → checkOf file ≡ Accepted shape → Ordered file shape
+
+-- Two arrays and a count: the first array begins with that list, as long as the count says; the word of a state in the second one
+-- is 0 exactly if the state can't be reached, and else its place and one more.
+pub record Found (file : List ℕ) (shape : Shape) (found : Reached) : Type 0 where
+  pub listed : FirstMeeting file shape (take (found .count) (found .order))
+  pub long : length (take (found .count) (found .order)) ≡ found .count
+  pub numbered : (state : ℕ) → state < mostStates → (0 < getD (found .number) state 0) ↔ Reachable file shape state
+  pub place : (place : ℕ) → place < found .count → getD (found .number) (getD (found .order) place 0) 0 ≡ place + 1
+
+-- The search of an accepted table finds this, by value and in lent arrays of 256 words, whatever these held.
+pub record AcceptedFound (file : List ℕ) (shape : Shape) : Type 0 where
+  pub by-value : Found file shape (reachedOf file shape)
+  pub lent : (order number : List ℕ) → length order ≡ mostStates → length number ≡ mostStates → Found file shape (reachedInto file shape order number)

@@ -4,11 +4,14 @@
 // The order is kept in two arrays: the states by place, and by state its place and one more, 0 for a state not met.
 use table::Shape;
 ghost use mathlib.Core.Path.{_≡_};
-ghost use lib.ListN.{take};
+ghost use lib.ListN.{length, take, replicate};
 ghost use Rattle.reach.specs.Order.{meet, meetNext, orderOf};
-ghost use Rattle.reach.specs.Reached.{reachedOf, Keeps, Kept};
+ghost use Rattle.reach.specs.Reached.{reachedOf, reachedInto, Keeps, Kept};
 
 const MOST_STATES: u16 = 256;
+
+// The length of the arrays: a place for each state that a table can have.
+const PLACES: usize = 256;
 
 // What the search of a table finds.
 pub struct Reached {
@@ -74,13 +77,40 @@ fn meet_all(file: &[u8], shape: Shape, order: &mut [u16], number: &mut [u16]) ->
     count
 }
 
-// The states of a table that can be reached.
+// Sets all words to 0.
+fn clear(words: &mut [u16])
+    ensures { λ _. ⌜ now (words .exit) ≡ replicate (length (now (words .entry))) 0 ⌝ }
+{
+    let mut at = 0;
+    while at < words.len() {
+        words[at] = 0;
+        at += 1;
+    }
+}
+
+// The states of a table that can be reached, in arrays of 256 words that may hold anything before. Answers how many they are;
+// arrays of another length are left as they were, and the answer is 0.
+pub fn reach_into(file: &[u8], shape: Shape, order: &mut [u16], number: &mut [u16]) -> u16
+    ensures { λ r. ⌜ (now (order .exit) ≡ reachedInto (now (file .entry)) shape (now (order .entry)) (now (number .entry)) .order) × (now (number .exit) ≡ reachedInto (now (file .entry)) shape (now (order .entry)) (now (number .entry)) .number) × (r ≡ reachedInto (now (file .entry)) shape (now (order .entry)) (now (number .entry)) .count) ⌝ }
+{
+    if order.len() != PLACES {
+        return 0;
+    }
+    if number.len() != PLACES {
+        return 0;
+    }
+    clear(order);
+    clear(number);
+    meet_all(file, shape, order, number)
+}
+
+// The states of a table that can be reached, by value.
 pub fn reach(file: &[u8], shape: Shape) -> Reached
     ensures { λ r. ⌜ r ≡ reachedOf (now (file .entry)) shape ⌝ }
 {
     let mut order = [0; 256];
     let mut number = [0; 256];
-    let count = meet_all(file, shape, &mut order, &mut number);
+    let count = reach_into(file, shape, &mut order, &mut number);
     Reached {
         order,
         number,

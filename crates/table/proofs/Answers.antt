@@ -8,7 +8,7 @@ use lib.ListN.{length}
 use Rattle.laws.proofs.Clash.{clash}
 use Rattle.refusal.specs.declared.Refusal.{Refusal}
 use Rattle.refusal.specs.declared.Refusal.the-variants.{File, Dimensions, Length, NextState}
-use Rattle.refusal.specs.Number.{numberOf, refusedBy}
+use Rattle.refusal.specs.Number.{numberOf, Said, refusedBy}
 use Rattle.refusal.proofs.Numbers.{numbers-apart}
 use Rattle.table.specs.declared.Shape.{Shape}
 use Rattle.table.specs.declared.Checked.{Checked}
@@ -49,6 +49,7 @@ module _ (file : List ℕ) where
         layout = λ number _ _. (λ f. ap checkSaid e ∙ sym (ap checkSaid answer) ∙ f, λ f. ap checkSaid answer ∙ sym (ap checkSaid e) ∙ f);
         entries = (λ f. absurd (numbers-apart (sym (ap checkSaid answer) ∙ f) (λ z. omega (arith, z, few))), λ (shape, f, _). absurd (refused cause shape (sym e ∙ f)));
         accepts = λ shape. (λ f. absurd (refused cause shape (sym answer ∙ f)), λ (f, _). absurd (refused cause shape (sym e ∙ f)));
+        only = λ number _ f. omega (arith, few, ap (λ (s : Said). s .number) (sym (ap checkSaid answer) ∙ f));
       }
 
   module _ (shape : Shape) (e : layoutOf file ≡ Accepted shape) where
@@ -63,6 +64,7 @@ module _ (file : List ℕ) where
           layout = λ number some few. (λ f. absurd (numbers-apart (sym (ap checkSaid answer) ∙ f) (λ z. omega (arith, z, few))), λ f. absurd (numbers-apart (sym (ap checkSaid e) ∙ f) (λ z. omega (arith, z, some))));
           entries = (λ _. (shape, e, not-all), λ _. ap checkSaid answer);
           accepts = λ other. (λ f. absurd (refused NextState other (sym answer ∙ f)), λ (f, all). absurd (not-all (subst (AllInRange file) (same-shape other f) all)));
+          only = λ number _ f. omega (arith, ap (λ (s : Said). s .number) (sym (ap checkSaid answer) ∙ f));
         }
 
     in-range : entriesInRange file shape ≡ true → CheckAnswered file
@@ -73,6 +75,7 @@ module _ (file : List ℕ) where
           layout = λ number some few. (λ f. absurd (said number some f), λ f. absurd (numbers-apart (sym (ap checkSaid e) ∙ f) (λ z. omega (arith, z, some))));
           entries = (λ f. absurd (said 4 (omega arith) f), λ (other, f, not-all). absurd (not-all (subst (AllInRange file) (sym (same-shape other f)) (accepted-next file shape answer))));
           accepts = λ other. (λ f. (accepted-parts file other f .0, accepted-next file other f), λ (f, _). answer ∙ ap Accepted (sym (same-shape other f)));
+          only = λ number some f. absurd (said number some f);
         }
 
   pub check-answered : CheckAnswered file

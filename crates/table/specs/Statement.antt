@@ -21,3 +21,5 @@ pub record CheckAnswered (file : List ℕ) : Type 0 where
   pub entries : (checkSaid (checkOf file) ≡ refusedBy 4) ↔ ((shape : Shape) × (layoutOf file ≡ Accepted shape) × (AllInRange file shape → ⊥))
   -- A shape exactly if these are accepted with it and every entry is in range.
   pub accepts : (shape : Shape) → (checkOf file ≡ Accepted shape) ↔ ((layoutOf file ≡ Accepted shape) × AllInRange file shape)
+  -- No other number is answered.
+  pub only : (number : ℕ) → 1 ≤ number → checkSaid (checkOf file) ≡ refusedBy number → number ≤ 4

@@ -61,7 +61,7 @@ pub fn measured() -> Result<String, String> {
         OsStr::new("-L"),
         folder.as_os_str(),
     ]);
-    words.extend(["-ldrive_object", "-Wl,--wrap=memset,--wrap=memcpy"].map(OsStr::new));
+    words.extend(["-ldrive_object", "-Wl,--wrap=memset"].map(OsStr::new));
     let printed = printed_by("gcc", &words).and_then(|_| printed_by(&built, &[]));
     // If gcc failed there is no file to remove.
     let _ = std::fs::remove_file(&built);

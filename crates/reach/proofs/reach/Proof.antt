@@ -1,20 +1,34 @@
--- The arrays are all 0 before the search.
+-- The arrays have 256 words each.
+use mathlib.Core.Path.{_≡_, refl, _∙_}
+use mathlib.Core.List.{List}
+use Prim.Native.Nat.{ℕ}
 use borrow.Author.Needs.{needs}
-use Rattle.reach.proofs.Words.{none-kept, keeps-reached}
+use lib.ListN.{replicate}
+use Rattle.table.specs.Layout.{mostStates}
+use Rattle.reach.specs.declared.Reached.{Reached}
+use Rattle.reach.proofs.Words.{into-both}
 use Rattle.reach.proofs.reach.Statement.{statement}
 use Rattle.reach.proofs.reach.Tie as tie
 
-slice-aggregate-meet-all : tie.Need-slice-aggregate-meet-all
-slice-aggregate-meet-all c = search needs
+-- One value of three parts.
+whole : {order number : List ℕ} {count : ℕ} {found : Reached} → (order ≡ found .order) × (number ≡ found .number) × (count ≡ found .count)
+    → _≡_ {A = Reached} (record { order = order; number = number; count = count }) found
+whole (e, f, g) = rw (e, f, g)
 
-slice-aggregate-meet-all-2 : tie.Need-slice-aggregate-meet-all-2
-slice-aggregate-meet-all-2 c = search needs
+slice-aggregate-reach-into : tie.Need-slice-aggregate-reach-into
+slice-aggregate-reach-into c = search needs
 
-meet-all-requires : tie.Need-meet-all-requires
-meet-all-requires c κs = none-kept
+slice-aggregate-reach-into-2 : tie.Need-slice-aggregate-reach-into-2
+slice-aggregate-reach-into-2 c = search needs
+
+reach-into-requires : tie.Need-reach-into-requires
+reach-into-requires c κs = search needs
 
 returns : tie.Need-returns
-returns c = keeps-reached (c .before .before .meet-all .ensures)
+returns c =
+    let a = c .before .before .before .before .before .before .args in
+    whole (c .before .before .reach-into .ensures) ∙ into-both (a .file .now) (a .shape) (replicate mostStates 0) (replicate mostStates 0) refl refl
 
 pub reach-spec : {M : Type 1} → statement M
-reach-spec = tie.close (tie.spec slice-aggregate-meet-all slice-aggregate-meet-all-2 meet-all-requires returns)
+reach-spec =
+    tie.close (tie.spec slice-aggregate-reach-into slice-aggregate-reach-into-2 reach-into-requires returns)
