@@ -50,5 +50,7 @@ module _ (file : List ℕ) (shape : Shape) (accepted : checkOf file ≡ Accepted
         place = place-held;
       }
 
-  pub accepted-found : AcceptedFound file shape
-  accepted-found = record { by-value = by-value; lent = λ order number long also. subst (Found file shape) (sym (into-both file shape order number long also)) by-value }
+pub accepted-found : AcceptedFound
+accepted-found file shape accepted =
+    let found = by-value file shape accepted in
+    (found, λ order number long also. subst (Found file shape) (sym (into-both file shape order number long also)) found)

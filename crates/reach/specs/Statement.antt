@@ -59,6 +59,6 @@ pub record Found (file : List ℕ) (shape : Shape) (found : Reached) : Type 0 wh
   pub place : (place : ℕ) → place < found .count → getD (found .number) (getD (found .order) place 0) 0 ≡ place + 1
 
 -- The search of an accepted table finds this, by value and in lent arrays of 256 words, whatever these held.
-pub record AcceptedFound (file : List ℕ) (shape : Shape) : Type 0 where
-  pub by-value : Found file shape (reachedOf file shape)
-  pub lent : (order number : List ℕ) → length order ≡ mostStates → length number ≡ mostStates → Found file shape (reachedInto file shape order number)
+abbrev pub AcceptedFound : Type 0
+AcceptedFound = (file : List ℕ) (shape : Shape) → checkOf file ≡ Accepted shape
+    → Found file shape (reachedOf file shape) × ((order number : List ℕ) → length order ≡ mostStates → length number ≡ mostStates → Found file shape (reachedInto file shape order number))

@@ -1,71 +1,39 @@
 //! The canonical writer, compared with the second program: written files with all that stands around them, refusals, and
 //! pairs of tables, which have equal files exactly if the second program finds a renumbering.
 
+mod rooms;
+
 use std::collections::BTreeSet;
 
 use drive_object::{Refusal, Shape, LONGEST_CANONICAL};
 use reference::canonical::{self, canonical};
 use reference::canonical_cases::{
-    damaged_table, fixed_pairs, fixed_tables, random_pair, rooms, written_length, Pair, RANDOM_DAMAGED,
-    RANDOM_PAIRS,
+    damaged_table, fixed_pairs, fixed_tables, random_pair, rooms as rooms_for, written_length, Pair,
+    RANDOM_DAMAGED, RANDOM_PAIRS,
 };
 use reference::refusal;
 use reference::renumbering::{reachable, same};
 use reference::table::Table;
 use reference::table_cases::{self, Case};
-
-/// Bytes before and behind a lent room.
-const MARGIN: usize = 8;
+use rooms::Compared;
 
 /// Of the files of table cases these many are generated.
 const RANDOM_FILES: u64 = 2_700;
 /// Of the generated pairs one in so many is written to every room.
 const PAIRS_WITH_ALL_ROOMS: usize = 4;
 
-/// How much was compared, and the numbers of the answers, 0 for an accepted call.
-#[derive(Default)]
-struct Compared {
-    answers: usize,
-    files: usize,
-    numbers: BTreeSet<u8>,
+/// Writes a file to rooms of all lengths about its own and about that of what is written.
+fn write_to_all_rooms(compared: &mut Compared, file: &[u8], name: &str) {
+    for length in rooms_for(file) {
+        let ours = |room: &mut [u8]| drive_object::write_canonical(file, room);
+        let theirs = |room: &mut [u8]| canonical::write_canonical(file, room);
+        compared.write(length, name, ours, theirs);
+    }
 }
 
-impl Compared {
-    /// The room is filled twice, the second time with the opposite of every bit: a byte that is written differs once.
-    fn write(&mut self, file: &[u8], length: usize, name: &str) {
-        for opposite in [0, u8::MAX] {
-            let filled: Vec<u8> = (0..length + 2 * MARGIN).map(|at| at as u8 ^ opposite).collect();
-            let (mut ours, mut theirs) = (filled.clone(), filled);
-            let lent = MARGIN..MARGIN + length;
-            let answer = drive_object::write_canonical(file, &mut ours[lent.clone()]);
-            let expected = canonical::write_canonical(file, &mut theirs[lent]);
-            let answer = answer.map_err(Refusal::number);
-            assert_eq!(
-                answer,
-                expected.map_err(refusal::Refusal::number),
-                "{name}, a room of {length} bytes"
-            );
-            let differing = ours.iter().zip(&theirs).position(|(our, their)| our != their);
-            assert_eq!(
-                differing, None,
-                "{name}, a room of {length} bytes after {MARGIN} others"
-            );
-            self.answers += 1;
-            self.files += usize::from(answer.is_ok());
-            self.numbers.insert(answer.err().unwrap_or(0));
-        }
-    }
-
-    fn all_rooms(&mut self, file: &[u8], name: &str) {
-        for length in rooms(file) {
-            self.write(file, length, name);
-        }
-    }
-
-    fn print(&self, what: &str) {
-        let (answers, files) = (self.answers, self.files);
-        println!("canonical: {answers} answers and {files} files compared, {what}");
-    }
+fn print(compared: &Compared, what: &str) {
+    let (answers, files) = (compared.answers, compared.files);
+    println!("canonical: {answers} answers and {files} files compared, {what}");
 }
 
 /// What check answers, by the archive and by the second program; the refusal's number, 0 if it is accepted.
@@ -139,16 +107,19 @@ fn the_longest_written_file_is_as_long_as_said() {
 fn rooms_are_those_of_the_second_program() {
     let mut compared = Compared::default();
     for case in fixed_tables() {
-        compared.all_rooms(&case.file, &case.name);
+        write_to_all_rooms(&mut compared, &case.file, &case.name);
     }
     for seed in (0..RANDOM_PAIRS).step_by(PAIRS_WITH_ALL_ROOMS) {
         let pair = random_pair(seed);
         for file in &pair.files {
-            compared.all_rooms(file, &pair.name);
+            write_to_all_rooms(&mut compared, file, &pair.name);
         }
     }
     assert_eq!(compared.numbers, BTreeSet::from([0, 16]));
-    compared.print("of accepted tables in rooms about the lengths of both files");
+    print(
+        &compared,
+        "of accepted tables in rooms about the lengths of both files",
+    );
 }
 
 /// Every refused file is tried with rooms that are too short for anything and with one that is long enough.
@@ -164,9 +135,9 @@ fn refusals_are_those_of_the_second_program() {
         .chain(damaged)
     {
         causes.insert(checked(&case));
-        compared.all_rooms(&case.file, &case.name);
+        write_to_all_rooms(&mut compared, &case.file, &case.name);
     }
     assert_eq!(causes, BTreeSet::from([0, 1, 2, 3, 4]));
     assert_eq!(compared.numbers, BTreeSet::from([0, 1, 2, 3, 4, 16]));
-    compared.print("of tables at every limit of 1 to 4");
+    print(&compared, "of tables at every limit of 1 to 4");
 }

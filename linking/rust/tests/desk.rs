@@ -3,6 +3,7 @@
 
 mod both;
 mod random_calls;
+mod rooms;
 
 use std::collections::BTreeSet;
 
@@ -12,9 +13,7 @@ use random_calls::random_call;
 use reference::desk_cases::{cases, WRONG_KINDS, WRONG_LENGTHS};
 use reference::random::Random;
 use reference::{desk, refusal};
-
-/// Bytes before and behind a lent room.
-const MARGIN: usize = 8;
+use rooms::Compared;
 
 /// The numbers of rings whose tables runs are made on.
 const COUNTS: [usize; 4] = [1, 2, 3, MOST_RINGS];
@@ -26,53 +25,33 @@ const BUILD: usize = 1;
 const TAKE_OUT: usize = 2;
 const OPERATIONS: usize = 3;
 
-/// How much was compared, and the numbers of the answers, 0 for an accepted call.
+/// How many owners were compared, with the numbers of the answers, 0 for an accepted call, and how much of the tables.
 #[derive(Default)]
-struct Compared {
-    answers: usize,
-    files: usize,
+struct Desk {
+    owners: usize,
     by_owner: BTreeSet<u8>,
-    by_table: BTreeSet<u8>,
+    tables: Compared,
 }
 
-impl Compared {
+impl Desk {
     fn owner(&mut self, rings: &[u32], chainage: u64, name: &str) {
         let ours = drive_object::owner(rings, chainage).map_err(Refusal::number);
         let theirs = desk::owner(rings, chainage).map_err(refusal::Refusal::number);
         assert_eq!(ours, theirs, "{name}, chainage {chainage}");
-        self.answers += 1;
+        self.owners += 1;
         self.by_owner.insert(ours.err().unwrap_or(0));
     }
 
-    /// The room is filled twice, the second time with the opposite of every bit: a byte that is written differs once.
     fn table(&mut self, rings: &[u32], length: usize, name: &str) {
-        for opposite in [0, u8::MAX] {
-            let filled: Vec<u8> = (0..length + 2 * MARGIN).map(|at| at as u8 ^ opposite).collect();
-            let (mut ours, mut theirs) = (filled.clone(), filled);
-            let lent = MARGIN..MARGIN + length;
-            let answer = drive_object::write_ring_table(rings, &mut ours[lent.clone()]);
-            let expected = desk::write_ring_table(rings, &mut theirs[lent]);
-            let answer = answer.map_err(Refusal::number);
-            assert_eq!(
-                answer,
-                expected.map_err(refusal::Refusal::number),
-                "{name}, a room of {length} bytes"
-            );
-            let differing = ours.iter().zip(&theirs).position(|(our, their)| our != their);
-            assert_eq!(
-                differing, None,
-                "{name}, a room of {length} bytes after {MARGIN} others"
-            );
-            self.answers += 1;
-            self.files += usize::from(answer.is_ok());
-            self.by_table.insert(answer.err().unwrap_or(0));
-        }
+        let ours = |room: &mut [u8]| drive_object::write_ring_table(rings, room);
+        let theirs = |room: &mut [u8]| desk::write_ring_table(rings, room);
+        self.tables.write(length, name, ours, theirs);
     }
 }
 
 /// Wrong words in every place of a longest list, each with a chainage that the first ring would own and one that none would,
 /// and with a room that would be long enough and one that wouldn't.
-fn wrong_words_everywhere(compared: &mut Compared) {
+fn wrong_words_everywhere(compared: &mut Desk) {
     for at in 0..2 * MOST_RINGS {
         let wrong: &[u32] = [&WRONG_LENGTHS[..], &WRONG_KINDS][at % 2];
         for word in wrong {
@@ -91,7 +70,7 @@ fn wrong_words_everywhere(compared: &mut Compared) {
 
 #[test]
 fn owners_and_files_are_those_of_the_second_program() {
-    let mut compared = Compared::default();
+    let mut compared = Desk::default();
     for case in cases() {
         for chainage in &case.chainages {
             compared.owner(&case.rings, *chainage, &case.name);
@@ -102,8 +81,8 @@ fn owners_and_files_are_those_of_the_second_program() {
     }
     wrong_words_everywhere(&mut compared);
     assert_eq!(compared.by_owner, BTreeSet::from([0, 14, 15]));
-    assert_eq!(compared.by_table, BTreeSet::from([0, 14, 16]));
-    let (answers, files) = (compared.answers, compared.files);
+    assert_eq!(compared.tables.numbers, BTreeSet::from([0, 14, 16]));
+    let (answers, files) = (compared.owners + compared.tables.answers, compared.tables.files);
     println!("desk: {answers} answers and {files} files compared");
 }
 

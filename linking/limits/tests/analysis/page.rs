@@ -26,8 +26,10 @@ fn numbers_are_grouped() {
 
 #[test]
 fn each_call_has_a_row() {
-    let mut functions = CALLS.map(|call| (call, "ret"));
-    functions[1].1 = "sub $0x400,%rsp; call 2 @memset; add $0x400,%rsp; ret";
+    let functions = CALLS.map(|call| match call {
+        "drive_start" => (call, "sub $0x400,%rsp; call 2 @memset; add $0x400,%rsp; ret"),
+        _ => (call, "ret"),
+    });
     let known = limits(&functions, "", &[]).unwrap();
     let text = tables(&known, &[("f", &LOOPS)]).unwrap();
     assert!(
@@ -47,7 +49,7 @@ fn each_call_has_a_row() {
 #[test]
 fn other_calls_are_refused() {
     let few = limits(&[("drive_check", "ret")], "", &[]).unwrap();
-    assert_refused(tables(&few, &[]), "drive_start is not in the archive");
+    assert_refused(tables(&few, &[]), "drive_canonical is not in the archive");
     for name in ["drive_other", "desk_other"] {
         let other = limits(&[(name, "ret")], "", &[]).unwrap();
         assert_refused(tables(&other, &[]), &format!("{name} is exported"));
