@@ -99,8 +99,8 @@ uint64_t drive_check(const uint8_t *file, size_t file_length);
  * reached, then 16. The states that can be reached from the start state are numbered in the order of first meeting: the
  * start state is 0, states are taken in their new order, operations from 0 up; the others are dropped. The file has the
  * start state 0, no text, and 2 bytes for each of its states and operations and 16 more. Two tables give equal files
- * exactly if their states that can be reached become the same by renumbering, start to start, responses counted. The file
- * is written at the beginning of the room, which may hold anything before and doesn't overlap the table; the rest of the
+ * exactly if their states that can be reached become the same by renumbering, start to start, with equally many operations
+ * and equal responses. The file is written at the beginning of the room, which may hold anything before; the rest of the
  * room is left as it was. Answers the length of the file in bytes, which is at most that of the table. Its cost grows
  * with states times operations.
  */

@@ -33,7 +33,8 @@ pub fn written_length(table: &Table) -> usize {
 }
 
 /// The lengths in bytes of rooms for a file. For an accepted one: none, about the length of the written file, about its own
-/// length, and between the two. For a refused one: none, about that of a trailer, its own, and the longest.
+/// length, between the two, and two of which only the low 16 bits are too few. For a refused one: none, about that of a
+/// trailer, its own, and the longest.
 pub fn rooms(file: &[u8]) -> BTreeSet<usize> {
     let own = file.len();
     match Table::check(file) {
@@ -49,6 +50,8 @@ pub fn rooms(file: &[u8]) -> BTreeSet<usize> {
                 own - 1,
                 own,
                 own + 1,
+                1 << 16,
+                (1 << 16) + written - 1,
             ])
         }
         Err(_) => BTreeSet::from([0, 1, 15, 16, 17, own, MOST_FILE_BYTES]),

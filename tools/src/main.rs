@@ -158,7 +158,9 @@ fn answer_to_two(command: &OsStr, one: &OsStr, other: &OsStr) -> Result<Answer, 
             let chainage = owner::chainage_of(&other.to_string_lossy())?;
             owner::report(&read(one)?, chainage).map(Answer::from)
         }
-        _ if one == "-" && other == "-" => Err("the standard input can be only one of the files".into()),
+        Some("same" | "run" | "picture") if one == "-" && other == "-" => {
+            Err("the standard input can be only one of the files".into())
+        }
         Some("same") => {
             let (line, yes) = same::report(&[named_table(one)?, named_table(other)?])?;
             let status = if yes { 0 } else { NO };

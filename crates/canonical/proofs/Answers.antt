@@ -145,8 +145,8 @@ module _ (file room written : List ℕ) (bytes : Bytes file) (wrote : Wrote file
   file-written : written ≡ canonicalOf file
   file-written = both-known .1
 
-  wrote-short : (length written ≤ length file) × (length written ≤ 16400)
-  wrote-short =
+  short : (length written ≤ length file) × (length written ≤ 16400)
+  short =
       let shape : Shape = shapeOf file in
       let closed = accepted-closed file shape (served .1) in
       let long : length written ≡ fileLength (renumberedShape shape (orderOf file shape)) = ap length file-written ∙ file-long file shape (served .1) in
@@ -157,8 +157,8 @@ pub wrote-renumbered : WroteRenumbered
 wrote-renumbered file room written order bytes wrote of-kind =
     subst (Renumbered file order) (sym (file-written file room written bytes wrote)) (served-canonical file (served file room written bytes wrote) .renumbered order of-kind)
 
-pub written-short : WroteShort
-written-short = wrote-short
+pub wrote-short : WroteShort
+wrote-short = short
 
 pub one-file : OneFile
 one-file one other one-room other-room one-written other-written bytes other-bytes first second =

@@ -3,7 +3,6 @@ use mathlib.Core.Path.{_≡_, refl}
 use mathlib.Core.List.{map}
 use Rattle.laws.specs.Below.{allBelow}
 use Rattle.laws.specs.Joined.{joined}
-use Rattle.laws.specs.Case.{case}
 use Rattle.table.specs.File.{endsInMark, shapeOf}
 use Rattle.table.specs.Entries.{entryOf, entryInRange, operationInRange, entriesInRange}
 use Rattle.table.specs.Layout.{fileFits, dimensionsFit, lengthFits, layoutOf}
@@ -12,12 +11,8 @@ use Rattle.table.specs.Cases.{flag}
 use Rattle.table_writer.specs.Written.{fileOf}
 use Rattle.reach.specs.Order.{meet, meetNext, turn, turns, orderOf}
 use Rattle.canonical.specs.Canonical.{renumbered, canonicalOf, canonicalWritten}
-use Rattle.canonical.specs.Cases.{flagFromOne, canonicalPairs, refusal, lengthSaid, canonicalCases}
-
-pub canonical-pairs-hold : map (λ p. canonicalOf (p .file)) canonicalPairs ≡ map (λ p. p .written) canonicalPairs
-unfolding canonicalPairs flag flagFromOne canonicalOf renumbered fileOf joined orderOf turns turn meetNext meet shapeOf entryOf
-canonical-pairs-hold = refl
+use Rattle.canonical.specs.Cases.{flagFromOne, outcome, canonicalCases}
 
 pub canonical-cases-hold : map (λ c. c .given) canonicalCases ≡ map (λ c. c .said) canonicalCases
-unfolding canonicalCases case refusal lengthSaid canonicalWritten flag canonicalOf renumbered fileOf joined orderOf turns turn meetNext meet checkOf layoutOf fileFits dimensionsFit lengthFits entriesInRange operationInRange entryInRange entryOf endsInMark shapeOf allBelow
+unfolding canonicalCases outcome flag flagFromOne canonicalWritten canonicalOf renumbered fileOf joined orderOf turns turn meetNext meet checkOf layoutOf fileFits dimensionsFit lengthFits entriesInRange operationInRange entryInRange entryOf endsInMark shapeOf allBelow
 canonical-cases-hold = refl

@@ -15,7 +15,7 @@ use Rattle.reach.proofs.Meeting.{Meeting, known, no-state, new, meeting, meet-k
 use Rattle.reach.proofs.Search.{Closed, start-reached, next-reached}
 use Rattle.reach.proofs.Turns.{meet-next-zero, meet-next-suc, turn-taken, turn-past, turns-zero, turns-suc, order-is}
 use Rattle.reach.proofs.Ordered.{reachable-below}
-use Rattle.canonical.specs.Same.{operationsOf, startOf, nextIn, ReachableIn, Same}
+use Rattle.canonical.specs.Same.{operationsOf, startStateOf, nextIn, ReachableIn, Same}
 
 -- ---- Lists renumbered
 
@@ -118,8 +118,8 @@ module _ {one other : List ℕ} (closed : Closed one (shapeOf one)) (other-close
       let r = start-reached one (shapeOf one) in
       let nothing : AllReached [] = λ i h. absurd (omega arith) in
       record {
-        all = subst AllReached (sym (turns-zero one (shapeOf one))) (meet-reached [] (startOf one) nothing r);
-        same = ap (map (s .to)) (turns-zero one (shapeOf one)) ∙ meet-same [] (startOf one) nothing r ∙ ap (meet []) (s .start) ∙ sym (turns-zero other (shapeOf other));
+        all = subst AllReached (sym (turns-zero one (shapeOf one))) (meet-reached [] (startStateOf one) nothing r);
+        same = ap (map (s .to)) (turns-zero one (shapeOf one)) ∙ meet-same [] (startStateOf one) nothing r ∙ ap (meet []) (s .start) ∙ sym (turns-zero other (shapeOf other));
       }
   turns-in-step (suc place) =
       let before = turns-in-step place in

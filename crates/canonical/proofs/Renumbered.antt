@@ -22,7 +22,7 @@ use Rattle.reach.proofs.Places.{place-holds}
 use Rattle.reach.proofs.Search.{Closed, start-reached, next-reached}
 use Rattle.reach.proofs.Turns.{order-closed}
 use Rattle.reach.proofs.Ordered.{accepted-closed, accepted-ordered, reachable-listed, listed-reachable, order-once, order-some, reachable-below}
-use Rattle.canonical.specs.Same.{operationsOf, startOf, nextIn, responseIn, ReachableIn, Same}
+use Rattle.canonical.specs.Same.{operationsOf, startStateOf, nextIn, responseIn, ReachableIn, Same}
 use Rattle.canonical.specs.Canonical.{renumberedEntry, renumberedShape, renumbered, canonicalOf}
 use Rattle.canonical.specs.Statement.{Served, Renumbered, Canonical, ServedCanonical}
 
@@ -123,7 +123,7 @@ module _ (file : List ℕ) (served : Served file) where
   at-place : (state : ℕ) → ReachableIn file state → getD order (placeIn order state) 0 ≡ state
   at-place state r = place-holds state order (listed state r)
 
-  start-place : placeIn order (startOf file) ≡ startOf written
+  start-place : placeIn order (startStateOf file) ≡ startStateOf written
   start-place =
       let first = order-once file shape closed 0 (order-some file shape closed) in
       ap (placeIn order) (sym (ordered .first-meeting .start)) ∙ first ∙ sym (ap (λ (s : Shape). s .start) written-shape)
@@ -146,7 +146,7 @@ module _ (file : List ℕ) (served : Served file) where
         known = subst (λ m. AllBelow m (r .by)) (sym operations-is) (r .known);
         arrives =
             ap (λ (q : ℕ). walk written (shapeOf written) q (r .by)) (sym start-place)
-            ∙ sym (walk-place (startOf file) (start-reached file shape) (r .known))
+            ∙ sym (walk-place (startStateOf file) (start-reached file shape) (r .known))
             ∙ ap (placeIn order) (r .arrives);
       }
 

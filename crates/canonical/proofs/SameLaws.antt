@@ -5,7 +5,7 @@ use Prim.Native.Nat.{ℕ, _<_}
 use native.Mathlib.Omega.{arith}
 use Rattle.table.specs.File.{shapeOf}
 use Rattle.reach.proofs.Search.{start-reached, next-reached}
-use Rattle.canonical.specs.Same.{operationsOf, startOf, nextIn, responseIn, Same}
+use Rattle.canonical.specs.Same.{operationsOf, startStateOf, nextIn, responseIn, Same}
 
 pub same-back : {one other : List ℕ} → Same one other → Same other one
 same-back {one} {other} s =
@@ -13,7 +13,7 @@ same-back {one} {other} s =
       to = s .from;
       from = s .to;
       operations = sym (s .operations);
-      start = ap (s .from) (sym (s .start)) ∙ s .from-to (startOf one) (start-reached one (shapeOf one));
+      start = ap (s .from) (sym (s .start)) ∙ s .from-to (startStateOf one) (start-reached one (shapeOf one));
       reached = s .reached-back;
       reached-back = s .reached;
       from-to = s .to-from;

@@ -16,10 +16,10 @@ use Rattle.reach.specs.Walk.{nextOf}
 use Rattle.reach.specs.Order.{placeIn, orderOf}
 use Rattle.reach.specs.Reached.{orderWords, numberWords}
 
--- The entry of a new number: the new number of the next state, and the response as it was.
-abbrev pub renumberedEntry : List ℕ → Shape → List ℕ → (number operation : ℕ) → Entry
-renumberedEntry file shape order number operation =
-    record { next = placeIn order (nextOf file shape (getD order number 0) operation); response = entryOf file shape (getD order number 0) operation .response }
+-- The entry of a new number, which is a place of the order: the new number of the next state, and the response as it was.
+abbrev pub renumberedEntry : List ℕ → Shape → List ℕ → (place operation : ℕ) → Entry
+renumberedEntry file shape order place operation =
+    record { next = placeIn order (nextOf file shape (getD order place 0) operation); response = entryOf file shape (getD order place 0) operation .response }
 
 -- As many states as the order has, the same number of operations, and the start state 0.
 abbrev pub renumberedShape : Shape → List ℕ → Shape

@@ -1,8 +1,8 @@
--- docs/FORMATS.md, "Cases": those of an object's one file. Some are pairs of a file and what is written for it, the others numbers.
+-- docs/FORMATS.md, "Cases": those of an object's one file, as one table of what the call says and leaves.
 use mathlib.Core.List.{List, [], _∷_, _++_}
 use Prim.Native.Nat.{ℕ}
-use lib.ListN.{set, replicate, getD}
-use Rattle.laws.specs.Case.{Case, case}
+use lib.ListN.{length, set, replicate}
+use Rattle.refusal.specs.Number.{Said, accepted, refusedBy}
 use Rattle.refusal.specs.Written.{writtenSaid}
 use Rattle.table.specs.Cases.{flag}
 use Rattle.canonical.specs.Canonical.{canonicalWritten}
@@ -31,38 +31,43 @@ abbrev pub flagSpare : List ℕ
 flagSpare =
     (0x41 ∷ 1 ∷ 9 ∷ 2 ∷ 9 ∷ 0 ∷ 9 ∷ 1 ∷ 0 ∷ 2 ∷ 0 ∷ 1 ∷ 0 ∷ 2 ∷ 1 ∷ 2 ∷ 1 ∷ 1 ∷ 1 ∷ []) ++ trailer 1 3 3 1
 
-pub record Pair : Type 0 where
-  pub file : List ℕ
-  pub written : List ℕ
+-- What the call says, and the room as it leaves it.
+pub record Outcome : Type 0 where
+  pub said : Said
+  pub room : List ℕ
 
-abbrev pair : List ℕ → List ℕ → Pair
-pair file written = record { file = file; written = written }
+-- The call on a file and a room of so many bytes 7.
+unfoldable pub outcome : List ℕ → ℕ → Outcome
+outcome file room =
+    record { said = writtenSaid (canonicalWritten file (replicate room 7) .answer); room = canonicalWritten file (replicate room 7) .room }
 
-unfoldable pub canonicalPairs : List Pair
-canonicalPairs =
-    -- The flag's file is its own.
-    pair flag flag
-    ∷ pair flagFromOne flagTurned
-    ∷ pair four fourWritten
-    ∷ pair flagSpare flag
-    ∷ []
+-- The file is written, as bytes, and so many bytes 7 are left behind it.
+abbrev wrote : List ℕ → ℕ → Outcome
+wrote bytes behind = record { said = accepted (length bytes ∷ []); room = bytes ++ replicate behind 7 }
 
--- What is said of a file, written into a room of so many bytes: the number, and the length.
-unfoldable pub refusal : List ℕ → ℕ → ℕ
-refusal file room = writtenSaid (canonicalWritten file (replicate room 0) .answer) .number
+-- The call is refused, and a room of so many bytes is as it was.
+abbrev refusedWith : ℕ → ℕ → Outcome
+refusedWith number room = record { said = refusedBy number; room = replicate room 7 }
 
-unfoldable pub lengthSaid : List ℕ → ℕ → ℕ
-lengthSaid file room = getD (writtenSaid (canonicalWritten file (replicate room 0) .answer) .values) 0 0
+pub record OutcomeCase : Type 0 where
+  pub given : Outcome
+  pub said : Outcome
 
-unfoldable pub canonicalCases : List Case
+abbrev gives : Outcome → Outcome → OutcomeCase
+gives given said = record { given = given; said = said }
+
+unfoldable pub canonicalCases : List OutcomeCase
 canonicalCases =
-    -- The flag's file has 28 bytes, and so has what is written for the flag with a spare state, which has 35.
-    case (refusal flag 27) 16
-    ∷ case (refusal flag 28) 0
-    ∷ case (lengthSaid flag 28) 28
-    ∷ case (refusal flagSpare 27) 16
-    ∷ case (lengthSaid flagSpare 28) 28
+    -- The flag's file is its own, and has 28 bytes.
+    gives (outcome flag 28) (wrote flag 0)
+    ∷ gives (outcome flag 30) (wrote flag 2)
+    ∷ gives (outcome flag 27) (refusedWith 16 27)
+    ∷ gives (outcome flagFromOne 28) (wrote flagTurned 0)
+    ∷ gives (outcome four 32) (wrote fourWritten 0)
+    -- The flag with a spare state has 35 bytes, and what is written for it 28.
+    ∷ gives (outcome flagSpare 28) (wrote flag 0)
+    ∷ gives (outcome flagSpare 27) (refusedWith 16 27)
     -- A next state out of range in the spare state; in a room that is too short, too.
-    ∷ case (refusal (set flagSpare 5 3) 28) 4
-    ∷ case (refusal (set flagSpare 5 3) 27) 4
+    ∷ gives (outcome (set flagSpare 5 3) 28) (refusedWith 4 28)
+    ∷ gives (outcome (set flagSpare 5 3) 27) (refusedWith 4 27)
     ∷ []

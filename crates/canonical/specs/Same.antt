@@ -1,4 +1,4 @@
--- docs/FORMATS.md, "One file for one object": when two files are one object. It knows no order of states and no bytes that are
+-- docs/FORMATS.md, "One file for one object": when two files are the same object. It knows no order of states and no bytes that are
 -- written.
 use mathlib.Core.Path.{_≡_}
 use mathlib.Core.List.{List}
@@ -12,8 +12,8 @@ abbrev pub operationsOf : List ℕ → ℕ
 operationsOf file = shapeOf file .operations
 
 -- A file's start state.
-abbrev pub startOf : List ℕ → ℕ
-startOf file = shapeOf file .start
+abbrev pub startStateOf : List ℕ → ℕ
+startStateOf file = shapeOf file .start
 
 -- The state after an operation.
 abbrev pub nextIn : List ℕ → (state operation : ℕ) → ℕ
@@ -27,13 +27,13 @@ responseIn file state operation = entryOf file (shapeOf file) state operation .r
 abbrev pub ReachableIn : List ℕ → ℕ → Type 0
 ReachableIn file = reach.Reachable file (shapeOf file)
 
--- The states of two files that can be reached become the same by renumbering, start to start: equally many operations, and a
+-- Those states of two files that can be reached become the same by renumbering, start to start: equally many operations, and a
 -- renumbering and its inverse, along which every operation leads to the same state and responds the same.
 pub record Same (one other : List ℕ) : Type 0 where
   pub to : ℕ → ℕ
   pub from : ℕ → ℕ
   pub operations : operationsOf one ≡ operationsOf other
-  pub start : to (startOf one) ≡ startOf other
+  pub start : to (startStateOf one) ≡ startStateOf other
   pub reached : (state : ℕ) → ReachableIn one state → ReachableIn other (to state)
   pub reached-back : (state : ℕ) → ReachableIn other state → ReachableIn one (from state)
   pub from-to : (state : ℕ) → ReachableIn one state → from (to state) ≡ state

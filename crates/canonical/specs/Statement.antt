@@ -17,15 +17,15 @@ use Rattle.reach.specs.Statement.{FirstMeeting}
 use Rattle.canonical.specs.Same.{operationsOf, nextIn, responseIn, ReachableIn, Same}
 use Rattle.canonical.specs.Canonical.{canonicalOf, canonicalWritten}
 
--- Check accepts a file, and finds its shape.
+-- A file of bytes that check accepts.
 abbrev pub Served : List ℕ → Type 0
 Served file = Bytes file × (checkOf file ≡ Accepted (shapeOf file))
 
 -- ---- What the file is
 
--- A file and the list of its states in the order of first meeting: what is written has no text, a state for each of the list, the
--- same number of operations and the start state 0; an operation leads from a number to that of the next state, and responds as
--- before.
+-- A file and the list of its states in the order of first meeting: what is written has no text, a state for each of the list,
+-- the same number of operations and the start state 0; an operation leads from a number to that of the next state, and responds
+-- as before.
 pub record Renumbered (file order written : List ℕ) : Type 0 where
   pub bytes : Bytes written
   pub long : length written ≡ 2 * (length order * operationsOf file) + 16
@@ -74,10 +74,11 @@ abbrev pub Wrote : (file room written : List ℕ) → Type 0
 Wrote file room written =
     (writtenSaid (canonicalWritten file room .answer) ≡ accepted (length written ∷ [])) × (take (length written) (canonicalWritten file room .room) ≡ written)
 
--- They are the table in the numbers of first meeting, no longer than the table and than 16,400 bytes.
+-- They are the table in the numbers of first meeting.
 abbrev pub WroteRenumbered : Type 0
 WroteRenumbered = (file room written order : List ℕ) → Bytes file → Wrote file room written → FirstMeeting file (shapeOf file) order → Renumbered file order written
 
+-- They are no more than the table has, and at most 16,400.
 abbrev pub WroteShort : Type 0
 WroteShort = (file room written : List ℕ) → Bytes file → Wrote file room written → (length written ≤ length file) × (length written ≤ 16400)
 

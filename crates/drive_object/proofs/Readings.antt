@@ -74,7 +74,8 @@ pub ceiling-read : (a : Ceiling) → (refusalIn (ceilingWord a) ≡ ceilingSaid 
 ceiling-read (ceiling.Steps k) = (omega arith, omega arith)
 ceiling-read (ceiling.Refused c) = (refused-read c .0, refused-read c .3)
 
--- An owner's word shows its number and the ring's, that of a call that writes its number and the length, and neither a flag.
+-- An owner's word shows its number and the ring's; the word of a call that writes shows its number and the length. Neither has a
+-- flag.
 owner-read : (a : OwnerAnswer) → valueAt (ownerSaid a) 0 < 65536 → let w = ownerWord a in
     (refusalIn w ≡ ownerSaid a .number) × (flagsIn w ≡ 0) × (lowIn w ≡ valueAt (ownerSaid a) 0) × (highIn w ≡ 0)
 owner-read (owner.Ring number) h = parts-read 0 0 number 0 (omega arith) (omega arith) h

@@ -1,4 +1,4 @@
-// The calls for kernels in C and Rust, the writer of an object's file, and the ring desk's calls: each answer is one word.
+// The calls for kernels in C and Rust, that of the writer and those of the ring desk among them: each answer is one word.
 use cells::bit;
 use cells::ceiling;
 use cells::ceiling::Ceiling;

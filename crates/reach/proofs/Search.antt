@@ -9,6 +9,7 @@ use lib.ListN.{length, getD, List·getD-append}
 use lib.Seq.{getD-append-seam}
 use Rattle.table.specs.declared.Shape.{Shape}
 use Rattle.table.specs.Layout.{mostStates}
+use Rattle.table.specs.Statement.{AllInRange}
 use Rattle.reach.specs.Walk.{nextOf, walk, AllBelow, none, more, Reachable}
 use Rattle.reach.specs.Order.{placeIn, meet}
 use Rattle.reach.specs.Statement.{Before, MetFirst}
@@ -19,7 +20,7 @@ use Rattle.reach.proofs.Meeting.{Meeting, known, no-state, new, meeting
 pub record Closed (file : List ℕ) (shape : Shape) : Type 0 where
   pub few : shape .states ≤ mostStates
   pub start-below : shape .start < shape .states
-  pub next-below : (state operation : ℕ) → state < shape .states → operation < shape .operations → nextOf file shape state operation < shape .states
+  pub next-below : AllInRange file shape
 
 module _ (file : List ℕ) (shape : Shape) where
   -- A walk goes on by one operation.

@@ -1,5 +1,5 @@
--- docs/FORMATS.md, "One file for one object": the states in the order of first meeting, from the start state, the states taken in
--- this order, operations from 0 up. All of it is total: a number that is no state of any table is passed over.
+-- docs/FORMATS.md, "One file for one object": the states in the order of first meeting, from the start state, the states taken
+-- in this order, operations from 0 up. All of it is total: a number that is no state of any table is passed over.
 use mathlib.Core.Bool.{Bool, cond, _||_}
 use mathlib.Core.List.{List, [], _∷_, _++_}
 use Prim.Native.Nat.{ℕ, zero, suc}

@@ -50,8 +50,8 @@ pub record Ordered (file : List ℕ) (shape : Shape) : Type 0 where
 abbrev pub AcceptedOrdered : Type 0
 AcceptedOrdered = (file : List ℕ) (shape : Shape) → checkOf file ≡ Accepted shape → Ordered file shape
 
--- Two arrays and a count: the first array begins with that list, as long as the count says; the word of a state in the second one
--- is 0 exactly if the state can't be reached, and else its place and one more.
+-- Two arrays and a count: the first array begins with that list, as long as the count says; the word of a state in the second
+-- one is 0 exactly if the state can't be reached, and else its place and one more.
 pub record Found (file : List ℕ) (shape : Shape) (found : Reached) : Type 0 where
   pub listed : FirstMeeting file shape (take (found .count) (found .order))
   pub long : length (take (found .count) (found .order)) ≡ found .count

@@ -45,7 +45,8 @@ const RINGS: Turn = Turn {
     over: "rings",
 };
 
-/// Tests come before the loops: 2 holds states and operations to these numbers, 5 the records, 14 the rings.
+/// Tests come before the loops: 2 holds states and operations to these numbers, 5 the records, 14 the rings. The search for
+/// states takes no state twice.
 pub const GIVEN: [Turns<'static>; 6] = [
     ("drive_check", &[OPERATIONS, STATES_OF_EACH]),
     (

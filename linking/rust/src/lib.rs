@@ -83,8 +83,8 @@ pub fn check(file: &[u8]) -> Result<Shape, Refusal> {
 /// The states that can be reached from the start state are numbered in the order of first meeting: the start state is 0,
 /// states are taken in their new order, operations from 0 up; the others are dropped. The file has the start state 0, no
 /// text, and 2 bytes for each of its states and operations and 16 more, so it is at most as long as the table. Two tables
-/// give equal files exactly if their states that can be reached become the same by renumbering, start to start, responses
-/// counted.
+/// give equal files exactly if their states that can be reached become the same by renumbering, start to start, with equally
+/// many operations and equal responses.
 ///
 /// Writes the file at the beginning of the room, which may hold anything before, and leaves the rest of it. Its cost grows
 /// with states times operations.

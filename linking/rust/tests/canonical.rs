@@ -24,11 +24,13 @@ const PAIRS_WITH_ALL_ROOMS: usize = 4;
 
 /// Writes a file to rooms of all lengths about its own and about that of what is written.
 fn write_to_all_rooms(compared: &mut Compared, file: &[u8], name: &str) {
+    let lent = file.to_vec();
     for length in rooms_for(file) {
-        let ours = |room: &mut [u8]| drive_object::write_canonical(file, room);
+        let ours = |room: &mut [u8]| drive_object::write_canonical(&lent, room);
         let theirs = |room: &mut [u8]| canonical::write_canonical(file, room);
         compared.write(length, name, ours, theirs);
     }
+    assert_eq!(lent, file, "{name}, the table is left");
 }
 
 fn print(compared: &Compared, what: &str) {
@@ -140,4 +142,31 @@ fn refusals_are_those_of_the_second_program() {
     assert_eq!(causes, BTreeSet::from([0, 1, 2, 3, 4]));
     assert_eq!(compared.numbers, BTreeSet::from([0, 1, 2, 3, 4, 16]));
     print(&compared, "of tables at every limit of 1 to 4");
+}
+
+extern "C" {
+    fn drive_canonical(file: *const u8, file_length: usize, room: *mut u8, room_length: usize) -> u64;
+}
+
+/// The word has the length in its high half or the number in its low byte, and nothing else.
+#[test]
+fn words_have_nothing_beside_the_number_and_the_length() {
+    let longer_than_16_bits = Case {
+        name: "the flag behind 65,536 bytes".into(),
+        file: [vec![0; 1 << 16], fixed_tables()[0].file.clone()].concat(),
+    };
+    let tables = fixed_tables().into_iter().chain(table_cases::fixed_cases());
+    for case in tables.chain([longer_than_16_bits]) {
+        for length in rooms_for(&case.file) {
+            let mut room = vec![0; length];
+            let expected = match canonical::write_canonical(&case.file, &mut room.clone()) {
+                Ok(length) => u64::from(length) << 32,
+                Err(refusal) => u64::from(refusal.number()),
+            };
+            let (file, lent) = (&case.file, &mut room);
+            // SAFETY: each pointer comes with the length of its own vector, which nobody else has meanwhile.
+            let word = unsafe { drive_canonical(file.as_ptr(), file.len(), lent.as_mut_ptr(), lent.len()) };
+            assert_eq!(word, expected, "{}, a room of {length} bytes", case.name);
+        }
+    }
 }

@@ -46,7 +46,7 @@ fn flag_from(start: u16) -> TableFile {
     }
 }
 
-/// The flag with up as state 0, down as state 2, and between them a state that nothing leads to.
+/// The flag with up as state 0, down as state 2, and between them a state that no other leads to.
 fn redrawn_flag() -> TableFile {
     let (up, spare, down) = (0, 1, 2);
     let entries = [
