@@ -1,5 +1,5 @@
--- docs/FORMATS.md, "One file for one object": when two files are the same object. It knows no order of states and no bytes that are
--- written.
+-- docs/FORMATS.md, "One file for one object": when two files are the same object. It knows no order of states and no bytes that
+-- are written.
 use mathlib.Core.Path.{_≡_}
 use mathlib.Core.List.{List}
 use Prim.Native.Nat.{ℕ, _<_}
