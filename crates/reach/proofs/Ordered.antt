@@ -29,10 +29,7 @@ module _ (file : List ℕ) (shape : Shape) (closed : Closed file shape) where
   searched : Searched file shape order mostStates 0
   searched = order-searched file shape closed
 
-  -- A state in the list has a place there.
-  pub order-listed : (state : ℕ) → StandsIn order state → placeIn order state < length order
-  order-listed state at = let below = place-first state order (at .place) (at .below) (at .is) in omega (arith, at .below, below)
-
+  -- A state with a place in the list stands there.
   pub order-stands : (state : ℕ) → placeIn order state < length order → StandsIn order state
   order-stands state h = record { place = placeIn order state; below = h; is = place-holds state order h }
 
