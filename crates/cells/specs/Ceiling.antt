@@ -1,7 +1,7 @@
--- docs/RUNS.md, "Runs, steps and records": the ceiling of own steps, held as a table.
+-- docs/RUNS.md, "Runs, steps and records": the ceiling of own steps, 1,000 × n × n × n.
 use mathlib.Core.Bool.{_&&_, cond}
 use mathlib.Core.List.{List, [], _∷_}
-use Prim.Native.Nat.{ℕ, _-_}
+use Prim.Native.Nat.{ℕ, _*_, _-_}
 use lib.Dec.{leb}
 use lib.ListN.{getD}
 use Rattle.refusal.specs.Number.{Said, accepted, refused}
@@ -9,19 +9,23 @@ use Rattle.refusal.specs.declared.Refusal.the-variants.{Row}
 use Rattle.cells.specs.declared.ceiling.Ceiling.{Ceiling}
 use Rattle.cells.specs.declared.ceiling.Ceiling.the-variants.{Steps, Refused}
 
--- The ceiling for 8 tasks, which is the greatest.
-abbrev pub greatestCeiling : ℕ
-greatestCeiling = 512000
-
--- The ceilings for 1 to 8 tasks.
-abbrev pub ceilings : List ℕ
-ceilings = 1000 ∷ 8000 ∷ 27000 ∷ 64000 ∷ 125000 ∷ 216000 ∷ 343000 ∷ greatestCeiling ∷ []
-
--- The table's entry for n tasks, if there are 1 to 8; else the row is refused.
+-- The product for n tasks, if there are 1 to 8; else the row is refused.
 unfoldable pub ceilingOf : ℕ → Ceiling
-ceilingOf n = cond (leb 1 n && leb n 8) (Steps (getD ceilings (n - 1) 0)) (Refused Row)
+ceilingOf n = cond (leb 1 n && leb n 8) (Steps (1000 * (n * n * n))) (Refused Row)
 
 -- What an answer says: the ceiling, or the number of the cause.
 abbrev pub ceilingSaid : Ceiling → Said
 ceilingSaid (Steps c) = accepted (c ∷ [])
 ceilingSaid (Refused cause) = refused cause
+
+-- The ceiling for 8 tasks, which is the greatest.
+abbrev pub greatestCeiling : ℕ
+greatestCeiling = 512000
+
+-- Document 01's list of the ceilings for 1 to 8 tasks. No code and no contract uses it: the answers are compared with it.
+abbrev pub listedCeilings : List ℕ
+listedCeilings = 1000 ∷ 8000 ∷ 27000 ∷ 64000 ∷ 125000 ∷ 216000 ∷ 343000 ∷ 512000 ∷ []
+
+-- The answer by that list: its entry for n tasks, if there are 1 to 8; else the row is refused.
+unfoldable pub listedCeiling : ℕ → Ceiling
+listedCeiling n = cond (leb 1 n && leb n 8) (Steps (getD listedCeilings (n - 1) 0)) (Refused Row)

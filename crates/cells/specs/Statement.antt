@@ -1,12 +1,14 @@
--- docs/FORMATS.md, "The cells": what is proved of the form of a head, with s states and n tasks, and when a cell is in form. The
--- proofs are in proofs/Theorem.antt.
+-- docs/FORMATS.md, "The cells": what is proved of the form of a head, with s states and n tasks, and when a cell is in form; the
+-- proofs are in proofs/Theorem.antt. docs/RUNS.md: what is proved of the ceiling; the proofs are in proofs/Ceilings.antt.
 use mathlib.Core.Path.{_≡_}
 use mathlib.Core.Bool.{Bool, true, false, _&&_}
 use mathlib.Core.Logic.{_↔_}
 use Prim.Native.Nat.{ℕ, _+_, _*_, _/_, _%_, _^_, _<_, _≤_}
 use lib.Dec.{ltb, leb}
+use Rattle.cells.specs.Ceiling.{ceilingOf, ceilingSaid, listedCeiling}
 use Rattle.cells.specs.Form.{headInForm, announcementInForm}
 use Rattle.cells.specs.Layout.{headOf}
+use Rattle.cells.specs.declared.ceiling.Ceiling.the-variants.{Steps}
 use Rattle.cells.specs.declared.head.Head.the-variants.{Held}
 
 -- The place values are written as numbers: 256 for bit 8, 65536 for bit 16, 16777216 for bit 24, 268435456 for bit 28, and 536870912
@@ -53,3 +55,17 @@ Sharp s n = 1 ≤ s → n ≤ 7 → let w = (n + 1) * 16777216 in (headInForm s 
 pub record CellFits (s m n cell w : ℕ) : Type 0 where
   pub head : cell ≡ 0 → headInForm s n w ≡ true
   pub announcement : (j : ℕ) → cell ≡ j + 1 → announcementInForm m n w ≡ true
+
+-- ---- Ceilings, of docs/RUNS.md
+
+-- The answer for n tasks is the one by document 01's list, for every n: the old one, 5 included.
+abbrev pub AsListed : (n : ℕ) → Type 0
+AsListed n = ceilingOf n ≡ listedCeiling n
+
+-- It is refused, with 5, exactly outside 1 to 8.
+abbrev pub RefusedOutside : (n : ℕ) → Type 0
+RefusedOutside n = (ceilingSaid (ceilingOf n) .number ≡ 5) ↔ (1 ≤ n → n ≤ 8 → ⊥)
+
+-- Ceilings grow with the number of tasks.
+abbrev pub Grows : (n k : ℕ) → Type 0
+Grows n k = 1 ≤ n → n < k → k ≤ 8 → (a : ℕ) × ((b : ℕ) × ((ceilingOf n ≡ Steps a) × (ceilingOf k ≡ Steps b) × (a < b)))

@@ -11,19 +11,8 @@ pub enum Ceiling {
 // The ceiling for 8 tasks, which is the greatest.
 pub const GREATEST: u32 = 512_000;
 
-// The ceilings for 1 to 8 tasks.
-const CEILINGS: [u32; 8] = [
-    1_000,
-    8_000,
-    27_000,
-    64_000,
-    125_000,
-    216_000,
-    343_000,
-    GREATEST,
-];
-
-// The ceiling for a number of tasks; there is none for 0 or over 8.
+// The ceiling for a number of tasks: 1,000 × n × n × n for 1 to 8. There is none for 0 or over 8, which is tested first: only a
+// number of tasks in range is multiplied.
 pub fn ceiling_for(tasks: usize) -> Ceiling
     ensures { λ r. ⌜ r ≡ ceilingOf tasks ⌝ }
 {
@@ -33,5 +22,6 @@ pub fn ceiling_for(tasks: usize) -> Ceiling
     if tasks > 8 {
         return Ceiling::Refused(Refusal::Row);
     }
-    Ceiling::Steps(CEILINGS[tasks - 1])
+    let n = tasks as u32;
+    Ceiling::Steps(1_000 * (n * n * n))
 }
