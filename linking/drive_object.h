@@ -145,8 +145,8 @@ uint64_t drive_step_record(const uint8_t *file, size_t file_length, uint64_t *ce
                            size_t task_count, size_t task, drive_task *own);
 
 /*
- * The ceiling of own steps of an operation, whatever the other tasks do. Tests 5 on the number of tasks.
- * Writes nothing. Answers the ceiling.
+ * The ceiling of own steps of an operation, whatever the other tasks do: 1,000 x n x n x n for n tasks, 1 to 8. Tests 5 on
+ * the number of tasks. Writes nothing. Answers the ceiling.
  */
 uint64_t drive_ceiling(size_t task_count);
 

@@ -5,7 +5,7 @@ use mathlib.Core.Bool.{Bool, true, false, _&&_}
 use mathlib.Core.Logic.{_↔_}
 use Prim.Native.Nat.{ℕ, _+_, _*_, _/_, _%_, _^_, _<_, _≤_}
 use lib.Dec.{ltb, leb}
-use Rattle.cells.specs.Ceiling.{ceilingOf, ceilingSaid, listedCeiling}
+use Rattle.cells.specs.Ceiling.{ceilingOf, ceilingSaid, greatestCeiling, listedCeiling}
 use Rattle.cells.specs.Form.{headInForm, announcementInForm}
 use Rattle.cells.specs.Layout.{headOf}
 use Rattle.cells.specs.declared.ceiling.Ceiling.the-variants.{Steps}
@@ -58,14 +58,18 @@ pub record CellFits (s m n cell w : ℕ) : Type 0 where
 
 -- ---- Ceilings, of docs/RUNS.md
 
--- The answer for n tasks is the one by document 01's list, for every n: the old one, 5 included.
+-- The answer for n tasks is the one by document 01's list, for every n, 5 included.
 abbrev pub AsListed : (n : ℕ) → Type 0
 AsListed n = ceilingOf n ≡ listedCeiling n
 
--- It is refused, with 5, exactly outside 1 to 8.
+-- It is 5 exactly outside 1 to 8.
 abbrev pub RefusedOutside : (n : ℕ) → Type 0
 RefusedOutside n = (ceilingSaid (ceilingOf n) .number ≡ 5) ↔ (1 ≤ n → n ≤ 8 → ⊥)
 
--- Ceilings grow with the number of tasks.
+-- They grow with the number of tasks: for 1 ≤ n < k ≤ 8 the ceiling for n is less than that for k.
 abbrev pub Grows : (n k : ℕ) → Type 0
 Grows n k = 1 ≤ n → n < k → k ≤ 8 → (a : ℕ) × ((b : ℕ) × ((ceilingOf n ≡ Steps a) × (ceilingOf k ≡ Steps b) × (a < b)))
+
+-- The greatest is the one for 8 tasks.
+abbrev pub Greatest : (n c : ℕ) → Type 0
+Greatest n c = (ceilingOf 8 ≡ Steps greatestCeiling) × (ceilingOf n ≡ Steps c → c ≤ greatestCeiling)

@@ -56,7 +56,7 @@ module _ (shape : Shape) (n c : ℕ) (t : Task) where
   unfolding readRecord
   read-parts f e = parts (recordInForm shape n c t) (phaseOf (t .phase)) f e
 
-  cause-read : (reason : Refusal) → readRecord shape n c t ≡ Refused reason → reason ≡ cause.Record
+  pub cause-read : (reason : Refusal) → readRecord shape n c t ≡ Refused reason → reason ≡ cause.Record
   unfolding readRecord
   cause-read = record-cause (recordInForm shape n c t) (phaseOf (t .phase)) (refused-read (t .phase))
 

@@ -41,7 +41,7 @@ use Rattle.stepping.proofs.Refused.{refused-begin, refused-step}
 -- ---- What the parts of a step say
 
 -- An accepted step says no number.
-accepted-says : (t : Task) (x : Next) (k : ℕ) → stepSaid (answerOf t x) ≡ Refused k → ⊥
+pub accepted-says : (t : Task) (x : Next) (k : ℕ) → stepSaid (answerOf t x) ≡ Refused k → ⊥
 accepted-says t (Go f v h a) k e = never cc
 accepted-says t Turn k e = never cc
 accepted-says t (End r v) k e = never cc

@@ -2,6 +2,7 @@ pub mod Admission
 pub mod Passed
 pub mod Forms
 pub mod Judged
+pub mod Rows
 pub mod Ready
 pub mod Parts
 pub mod Refused

@@ -22,12 +22,13 @@ use Rattle.stepping.specs.Call.{StartOutcome}
 use Rattle.stepping.specs.Runs.{Store}
 use Rattle.stepping.specs.Opening.{Opening, objectIn}
 use Rattle.stepping.specs.Lent.{Places}
-use Rattle.stepping.specs.Statement.{MakesAccess, FollowsResult, Local, OneCell, BeginByRecord, StepByRecord, StartUnchanged, BeginUnchanged, StepUnchanged, BeginRecordUnchanged, StepRecordUnchanged, RecordJudged, BeginRecordJudged, CellJudged, HolderAbove, SavedHolderAbove, BeginHolderAbove, HeadsInForm, KeepsForm, LeavesInForm, Startable, StartOpens, Demands, SharperDemands, Independent, Answered, Carried, InFormThroughout, Refusals, Endings, Emptied, Between, OpensNext}
+use Rattle.stepping.specs.Statement.{MakesAccess, FollowsResult, Local, OneCell, BeginByRecord, StepByRecord, StartUnchanged, BeginUnchanged, StepUnchanged, BeginRecordUnchanged, StepRecordUnchanged, StartRowJudged, BeginRowJudged, StepRowJudged, RecordJudged, BeginRecordJudged, CellJudged, HolderAbove, SavedHolderAbove, BeginHolderAbove, HeadsInForm, KeepsForm, LeavesInForm, Startable, StartOpens, Demands, SharperDemands, Independent, Answered, Carried, InFormThroughout, Refusals, Endings, Emptied, Between, OpensNext}
 use Rattle.stepping.proofs.Between.{between, opens-next}
 use Rattle.stepping.proofs.Demands.{opens, points-in-form, history-opened, answer-opened, access-opened, refused-opened, emptied}
 use Rattle.stepping.proofs.Outcomes.{answered, met, unmoved}
 use Rattle.stepping.proofs.Forms.{heads-in-form, keeps-form, leaves-in-form}
 use Rattle.stepping.proofs.Judged.{record-judged, begin-record-judged, cell-judged, holder-above, saved-holder-above, begin-holder-above}
+use Rattle.stepping.proofs.Rows.{start-row-judged, begin-row-judged, step-row-judged}
 use Rattle.stepping.proofs.Local.{step-local, step-elsewhere}
 use Rattle.stepping.proofs.AccessRule.{makes-access, follows-result}
 use Rattle.stepping.proofs.ByRecord.{begin-by-record, step-by-record}
@@ -76,6 +77,18 @@ pub step-record-unchanged : (file cells : List ℕ) (n i : ℕ) (t : Task) → S
 step-record-unchanged file cells n i t c e =
     let same = refused-step file cells n i t c e in
     (ap (λ (out : TaskOutcome). out .cells) same, ap (λ (out : TaskOutcome). out .task) same)
+
+-- ---- The number of tasks
+
+-- 5 comes exactly for 0 or more than 8 tasks.
+pub start-row-known : (file cells : List ℕ) (row : List Task) → StartRowJudged file cells row
+start-row-known = start-row-judged
+
+pub begin-row-known : (file : List ℕ) (n i o : ℕ) (t : Task) → BeginRowJudged file n i o t
+begin-row-known = begin-row-judged
+
+pub step-row-known : (file cells : List ℕ) (n i : ℕ) (t : Task) → StepRowJudged file cells n i t
+step-row-known = step-row-judged
 
 -- ---- Cells and records in form and out of form
 

@@ -34,7 +34,7 @@ use Rattle.stepping.specs.declared.answer.StepAnswer.the-variants as ste
 use Rattle.stepping.specs.declared.answer.BeginAnswer.the-variants as begin
 use Rattle.stepping.specs.declared.answer.StartAnswer.the-variants as start
 use Rattle.stepping.specs.Step.{touched, performOf, TaskOutcome}
-use Rattle.stepping.specs.Call.{beginSaid, stepSaid, startOf, beginTask, stepTask, taskAt, beginOf, stepOf}
+use Rattle.stepping.specs.Call.{startSaid, beginSaid, stepSaid, startOf, beginTask, stepTask, taskAt, beginOf, stepOf}
 use Rattle.stepping.specs.Access.{accessOf, givenBack}
 use Rattle.stepping.specs.Runs.{Store, runOf}
 use Rattle.stepping.specs.Opening.{Opening, objectIn, shown, startStore}
@@ -119,6 +119,25 @@ BeginRecordUnchanged file n i o t = (c : Refusal) → beginTask file n i o t .an
 abbrev pub StepRecordUnchanged : (file cells : List ℕ) (n i : ℕ) → Task → Type 0
 StepRecordUnchanged file cells n i t =
     (c : Refusal) → stepTask file cells n i t .answer ≡ step.Refused c → (stepTask file cells n i t .cells ≡ cells) × (stepTask file cells n i t .task ≡ t)
+
+-- ---- The number of tasks, for all arguments
+
+-- Where the tests before it are passed, 5 is answered exactly for 0 or more than 8 tasks, whatever else is lent: by start where 1 to
+-- 4 are, by begin and step where 1 to 3 are.
+abbrev pub StartRowJudged : (file cells : List ℕ) → List Task → Type 0
+StartRowJudged file cells row =
+    (shape : Shape) → checkOf file ≡ table.Accepted shape
+    → (startSaid (startOf file cells row .answer) .number ≡ 5) ↔ (1 ≤ length row → length row ≤ 8 → ⊥)
+
+abbrev pub BeginRowJudged : List ℕ → (n i o : ℕ) → Task → Type 0
+BeginRowJudged file n i o t =
+    (shape : Shape) → layoutOf file ≡ table.Accepted shape
+    → (beginSaid (beginTask file n i o t .answer) ≡ Refused 5) ↔ (1 ≤ n → n ≤ 8 → ⊥)
+
+abbrev pub StepRowJudged : (file cells : List ℕ) (n i : ℕ) → Task → Type 0
+StepRowJudged file cells n i t =
+    (shape : Shape) → layoutOf file ≡ table.Accepted shape
+    → (stepSaid (stepTask file cells n i t .answer) ≡ Refused 5) ↔ (1 ≤ n → n ≤ 8 → ⊥)
 
 -- ---- Cells and records in form and out of form, for all arguments
 

@@ -150,7 +150,8 @@ pub fn step_record(
     answer::progress(foreign::step_record(file, cells, tasks, task, own))
 }
 
-/// The ceiling of own steps of an operation, whatever the other tasks do. Tests 5 on the number of tasks.
+/// The ceiling of own steps of an operation, whatever the other tasks do: 1,000 × n × n × n for n tasks, 1 to 8. Tests 5 on
+/// the number of tasks.
 #[inline]
 pub fn ceiling(tasks: usize) -> Result<u32, Refusal> {
     answer::high_number(foreign::ceiling(tasks))

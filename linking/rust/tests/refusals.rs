@@ -219,31 +219,6 @@ fn step_answers_as_the_second_program() {
     }
 }
 
-#[test]
-fn ceiling_answers_as_the_second_program() {
-    for tasks in [0, 1, 2, 3, 4, 5, 6, 7, 8, 9, 256, usize::MAX] {
-        let theirs = reference::ceiling::ceiling(tasks).map_err(refusal::Refusal::number);
-        assert_eq!(drive_object::ceiling(tasks).map_err(Refusal::number), theirs);
-    }
-}
-
-/// Numbers that no row of the second program has; its ceiling is refused for them as such a row is.
-#[test]
-fn numbers_of_tasks_past_every_row_are_refused() {
-    let flag = TableFile::flag().to_bytes();
-    for tasks in [10, 256, usize::MAX] {
-        let theirs = reference::ceiling::ceiling(tasks).map_err(refusal::Refusal::number);
-        for record in records() {
-            let (mut own, mut cells) = (record, [0; 2]);
-            let begun = drive_object::begin_record(&flag, tasks, 0, 0, &mut own);
-            assert_eq!(begun.map_err(Refusal::number).err(), theirs.err());
-            let stepped = drive_object::step_record(&flag, &mut cells, tasks, 0, &mut own);
-            assert_eq!(stepped.map_err(Refusal::number).err(), theirs.err());
-            assert_eq!((own, cells), (record, [0; 2]));
-        }
-    }
-}
-
 /// The second program has these fields in a byte, so they are not compared with it.
 #[test]
 fn wide_phases_and_priorities_are_out_of_form() {
