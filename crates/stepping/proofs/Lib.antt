@@ -2,7 +2,6 @@ pub mod Admission
 pub mod Passed
 pub mod Forms
 pub mod Judged
-pub mod Rows
 pub mod Ready
 pub mod Parts
 pub mod Refused
@@ -18,5 +17,6 @@ pub mod Starts
 pub mod Demands
 pub mod Outcomes
 pub mod Between
+pub mod Rows
 pub mod Theorem
 pub mod Cases
