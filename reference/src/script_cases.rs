@@ -219,9 +219,12 @@ impl<'a> Writer<'a> {
         }
     }
 
-    /// One task begins, or makes a burst of steps, or is driven to its end.
+    /// One task begins, or makes a burst of steps, or is driven to its end. With no task the cells are printed.
     fn task_turn(&mut self) {
         let pending = self.bench.pending();
+        if pending.is_empty() {
+            return self.add("m");
+        }
         let task = self.random.below(pending.len());
         let late = self.lines > self.style.lines / 3;
         if late && self.style.stopped >> task & 1 == 1 && pending.iter().any(|&busy| !busy) {

@@ -6,19 +6,17 @@ use Prim.Native.Nat.{ℕ}
 use lib.ListN.{length, getD}
 use Rattle.laws.specs.Bit.{bit}
 use Rattle.laws.specs.Case.{Case, case}
-use Rattle.cells.specs.Ceiling.{ceilingOf}
+use Rattle.cells.specs.Ceiling.{ceilingOf, ceilingSaid}
 use Rattle.cells.specs.declared.ceiling.Ceiling.{Ceiling}
-use Rattle.cells.specs.declared.ceiling.Ceiling.the-variants.{Steps, Refused}
 use Rattle.cells.specs.Form.{headInForm, announcementInForm}
 use Rattle.cells.specs.Image.{image}
 use Rattle.cells.specs.Layout.{headWord, announcementWord}
 use Rattle.cells.specs.declared.head.Head.the-variants.{Held}
 use Rattle.cells.specs.declared.announcement.Announcement.the-variants.{Response}
 
--- The ceiling, 0 if there is none.
+-- The ceiling that an answer says, 0 if it says none.
 abbrev steps : Ceiling → ℕ
-steps (Steps c) = c
-steps (Refused reason) = 0
+steps answer = getD (ceilingSaid answer .values) 0 0
 
 -- 1 if a head is in form with two states, 0 if it is not; an announcement with three operations and one task.
 abbrev head : (tasks word : ℕ) → ℕ

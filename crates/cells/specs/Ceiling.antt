@@ -4,7 +4,7 @@ use mathlib.Core.List.{List, [], _∷_}
 use Prim.Native.Nat.{ℕ, _*_, _-_}
 use lib.Dec.{leb}
 use lib.ListN.{getD}
-use Rattle.refusal.specs.Number.{Said, accepted, refused}
+use Rattle.refusal.specs.Number.{Said, accepted, refusedBy, refused}
 use Rattle.refusal.specs.declared.Refusal.the-variants.{Row}
 use Rattle.cells.specs.declared.ceiling.Ceiling.{Ceiling}
 use Rattle.cells.specs.declared.ceiling.Ceiling.the-variants.{Steps, Refused}
@@ -22,10 +22,10 @@ ceilingSaid (Refused cause) = refused cause
 abbrev pub greatestCeiling : ℕ
 greatestCeiling = 512000
 
--- Document 01's list of the ceilings for 1 to 8 tasks. No code and no contract uses it: the answers are compared with it.
+-- Document 01's list of the ceilings for 1 to 8 tasks. No code and no contract uses it: a theorem compares the answers with it.
 abbrev pub listedCeilings : List ℕ
 listedCeilings = 1000 ∷ 8000 ∷ 27000 ∷ 64000 ∷ 125000 ∷ 216000 ∷ 343000 ∷ 512000 ∷ []
 
--- The answer by that list: its entry for n tasks, if there are 1 to 8; else the row is refused.
-unfoldable pub listedCeiling : ℕ → Ceiling
-listedCeiling n = cond (leb 1 n && leb n 8) (Steps (getD listedCeilings (n - 1) 0)) (Refused Row)
+-- What an answer by that list says: its entry for n tasks, if there are 1 to 8; else 5.
+unfoldable pub listedCeiling : ℕ → Said
+listedCeiling n = cond (leb 1 n && leb n 8) (accepted (getD listedCeilings (n - 1) 0 ∷ [])) (refusedBy 5)

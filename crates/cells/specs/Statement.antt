@@ -3,12 +3,13 @@
 use mathlib.Core.Path.{_≡_}
 use mathlib.Core.Bool.{Bool, true, false, _&&_}
 use mathlib.Core.Logic.{_↔_}
+use mathlib.Core.List.{[], _∷_}
 use Prim.Native.Nat.{ℕ, _+_, _*_, _/_, _%_, _^_, _<_, _≤_}
 use lib.Dec.{ltb, leb}
+use Rattle.refusal.specs.Number.{accepted, refusedBy}
 use Rattle.cells.specs.Ceiling.{ceilingOf, ceilingSaid, greatestCeiling, listedCeiling}
 use Rattle.cells.specs.Form.{headInForm, announcementInForm}
 use Rattle.cells.specs.Layout.{headOf}
-use Rattle.cells.specs.declared.ceiling.Ceiling.the-variants.{Steps}
 use Rattle.cells.specs.declared.head.Head.the-variants.{Held}
 
 -- The place values are written as numbers: 256 for bit 8, 65536 for bit 16, 16777216 for bit 24, 268435456 for bit 28, and 536870912
@@ -56,20 +57,28 @@ pub record CellFits (s m n cell w : ℕ) : Type 0 where
   pub head : cell ≡ 0 → headInForm s n w ≡ true
   pub announcement : (j : ℕ) → cell ≡ j + 1 → announcementInForm m n w ≡ true
 
--- ---- Ceilings, of docs/RUNS.md
+-- ---- Ceilings, of docs/RUNS.md, by what the answers say
 
--- The answer for n tasks is the one by document 01's list, for every n, 5 included.
-abbrev pub AsListed : (n : ℕ) → Type 0
-AsListed n = ceilingOf n ≡ listedCeiling n
+-- The ceiling for n tasks is c: the answer says it, and nothing beside it.
+abbrev pub CeilingIs : (n c : ℕ) → Type 0
+CeilingIs n c = ceilingSaid (ceilingOf n) ≡ accepted (c ∷ [])
 
--- It is 5 exactly outside 1 to 8.
-abbrev pub RefusedOutside : (n : ℕ) → Type 0
-RefusedOutside n = (ceilingSaid (ceilingOf n) .number ≡ 5) ↔ (1 ≤ n → n ≤ 8 → ⊥)
+-- For 1 to 8 tasks the ceiling is the product.
+abbrev pub Product : ℕ → Type 0
+Product n = 1 ≤ n → n ≤ 8 → CeilingIs n (1000 * (n * n * n))
 
--- They grow with the number of tasks: for 1 ≤ n < k ≤ 8 the ceiling for n is less than that for k.
+-- It is refused with 5 exactly outside 1 to 8.
+abbrev pub RefusedOutside : ℕ → Type 0
+RefusedOutside n = (ceilingSaid (ceilingOf n) ≡ refusedBy 5) ↔ (1 ≤ n → n ≤ 8 → ⊥)
+
+-- For every number of tasks the answer is the one by the contract's list, 5 included.
+abbrev pub AsListed : ℕ → Type 0
+AsListed n = ceilingSaid (ceilingOf n) ≡ listedCeiling n
+
+-- With more tasks the ceiling is greater: for 1 ≤ n < k ≤ 8 the one for n is less than that for k.
 abbrev pub Grows : (n k : ℕ) → Type 0
-Grows n k = 1 ≤ n → n < k → k ≤ 8 → (a : ℕ) × ((b : ℕ) × ((ceilingOf n ≡ Steps a) × (ceilingOf k ≡ Steps b) × (a < b)))
+Grows n k = 1 ≤ n → n < k → k ≤ 8 → (a : ℕ) × ((b : ℕ) × (CeilingIs n a × CeilingIs k b × (a < b)))
 
--- The greatest is the one for 8 tasks.
-abbrev pub Greatest : (n c : ℕ) → Type 0
-Greatest n c = (ceilingOf 8 ≡ Steps greatestCeiling) × (ceilingOf n ≡ Steps c → c ≤ greatestCeiling)
+-- The one for 8 tasks is the greatest.
+abbrev pub Greatest : Type 0
+Greatest = CeilingIs 8 greatestCeiling × ((n c : ℕ) → CeilingIs n c → c ≤ greatestCeiling)

@@ -3,15 +3,16 @@ use mathlib.Core.Path.{_≡_, refl, ap, _∙_}
 use mathlib.Core.Bool.{Bool, true, false}
 use mathlib.Core.Logic.{_⊎_, inl, inr}
 use mathlib.Core.List.{List}
-use Prim.Native.Nat.{ℕ, _/_, _%_, _<_, _≤_}
+use Prim.Native.Nat.{ℕ, _*_, _/_, _%_, _<_, _≤_}
 use native.Mathlib.Omega.{arith}
 use Rattle.laws.specs.Bit.{bit}
-use Rattle.refusal.specs.Number.{numberOf}
+use Rattle.refusal.specs.Number.{numberOf, Said}
 use Rattle.refusal.specs.declared.Refusal.{Refusal}
 use Rattle.refusal.specs.declared.Refusal.the-variants.{File, Dimensions, Length, NextState, Row, Cells, Task, Operation, Pending, Idle, Record, Cell, Line, Rings, Chainage, Room}
-use Rattle.cells.specs.Ceiling.{ceilingSaid}
+use Rattle.cells.specs.Ceiling.{ceilingOf, ceilingSaid}
 use Rattle.cells.specs.declared.ceiling.Ceiling.{Ceiling}
 use Rattle.cells.specs.declared.ceiling.Ceiling.the-variants as ceiling
+use Rattle.cells.proofs.Ceilings.{product, refused-outside}
 use Rattle.table.specs.declared.Shape.{Shape}
 use Rattle.table.specs.declared.Checked.the-variants as table
 use Rattle.machine.specs.Outcome.{Outcome}
@@ -65,14 +66,27 @@ number-fits Room = omega arith
 pub refused-read : (c : Refusal) → let w = refusedWord c in (refusalIn w ≡ numberOf c) × (flagsIn w ≡ 0) × (lowIn w ≡ 0) × (highIn w ≡ 0)
 refused-read c = parts-read (numberOf c) 0 0 0 (number-fits c) (omega arith) (omega arith)
 
--- A start and a ceiling show their number: that of the refusal, 0 if the call is accepted.
+-- A start shows its number: that of the refusal, 0 if the call is accepted.
 pub start-read : (a : StartAnswer) → refusalIn (startWord a) ≡ startSaid a .number
 start-read start.Started = refl
 start-read (start.Refused c) = refused-read c .0
 
-pub ceiling-read : (a : Ceiling) → (refusalIn (ceilingWord a) ≡ ceilingSaid a .number) × (highIn (ceilingWord a) ≡ valueAt (ceilingSaid a) 0)
-ceiling-read (ceiling.Steps k) = (omega arith, omega arith)
-ceiling-read (ceiling.Refused c) = (refused-read c .0, refused-read c .3)
+-- A ceiling's word shows its number and the steps, and nothing else.
+pub ceiling-read : (a : Ceiling) → let w = ceilingWord a in
+    (refusalIn w ≡ ceilingSaid a .number) × (flagsIn w ≡ 0) × (lowIn w ≡ 0) × (highIn w ≡ valueAt (ceilingSaid a) 0)
+ceiling-read (ceiling.Steps k) = parts-read 0 0 0 k (omega arith) (omega arith) (omega arith)
+ceiling-read (ceiling.Refused c) = refused-read c
+
+-- For 1 to 8 tasks these are 0 and the product; for every other number of tasks the word is 5.
+pub drive-ceiling-read : (n : ℕ) → let w = ceilingWord (ceilingOf n) in
+    (1 ≤ n → n ≤ 8 → (refusalIn w ≡ 0) × (flagsIn w ≡ 0) × (lowIn w ≡ 0) × (highIn w ≡ 1000 * (n * n * n))) × ((1 ≤ n → n ≤ 8 → ⊥) → w ≡ 5)
+drive-ceiling-read n = (
+  λ some few.
+      let (number, flags, low, high) = ceiling-read (ceilingOf n) in
+      let told = product n some few in
+      (number ∙ ap (λ (s : Said). s .number) told, flags, low, high ∙ ap (λ s. valueAt s 0) told),
+  λ out. ap (λ s. wordOf (s .number) 0 0 (valueAt s 0)) (refused-outside n .1 out),
+)
 
 -- An owner's word shows its number and the ring's; the word of a call that writes shows its number and the length. Neither has a
 -- flag.

@@ -3,10 +3,10 @@ use mathlib.Core.Path.{_≡_, refl, ap, _∙_}
 use mathlib.Core.List.{List}
 use Prim.Native.Nat.{ℕ, _*_, _<_, _≤_}
 use Rattle.laws.proofs.Clash.{never}
-use Rattle.cells.specs.Ceiling.{greatestCeiling, ceilingOf}
+use Rattle.cells.specs.Ceiling.{greatestCeiling, ceilingOf, ceilingSaid}
 use Rattle.cells.specs.declared.ceiling.Ceiling.{Ceiling}
 use Rattle.cells.specs.declared.ceiling.Ceiling.the-variants as limit
-use Rattle.cells.proofs.Ceilings.{ceiling-cubed, ceiling-served, greatest}
+use Rattle.cells.proofs.Ceilings.{ceiling-cubed, ceiling-told, greatest}
 use Rattle.table.specs.declared.Shape.{Shape}
 use Rattle.table.specs.declared.Checked.{Checked}
 use Rattle.table.specs.declared.Checked.the-variants as table
@@ -21,7 +21,10 @@ pub record Ranges (n c : ℕ) : Type 0 where
   pub low : c ≤ greatestCeiling
 
 pub ceiling-ranges : (n c : ℕ) → ceilingOf n ≡ limit.Steps c → Ranges n c
-ceiling-ranges n c e = let s = ceiling-served n c e in record { some = s .0; few = s .1; low = greatest n c .1 e }
+ceiling-ranges n c e =
+    let told = ap ceilingSaid e in
+    let range = ceiling-told n c told in
+    record { some = range .0; few = range .1; low = greatest .1 n c told }
 
 -- A call is admitted only with a layout that is accepted and a ceiling for its row, which are then in these ranges.
 admitted-parts : (n c : ℕ) (shape : Shape) (checked : Checked) → withRow n checked ≡ admitted.Admits c shape → (checked ≡ table.Accepted shape) × (ceilingOf n ≡ limit.Steps c)

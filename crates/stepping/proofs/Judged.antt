@@ -1,5 +1,5 @@
 -- Which records are refused with 11, and which touched cells with 12: exactly those out of form.
-use mathlib.Core.Path.{_≡_, refl, ap, subst}
+use mathlib.Core.Path.{_≡_, refl, sym, ap, subst}
 use mathlib.Core.Bool.{Bool, true, false, cond, not-eq-not}
 use mathlib.Core.Logic.{_↔_, _≢_}
 use mathlib.Core.List.{List}
@@ -8,6 +8,7 @@ use native.Mathlib.Omega.{arith}
 use borrow.Author.Tests.{lt-ltb, eq-eqb, ne-eqb}
 use lib.Dec.{eqb}
 use lib.ListN.{length, getD}
+use Rattle.laws.proofs.Choice.{choice}
 use Rattle.laws.proofs.Clash.{never}
 use Rattle.refusal.specs.declared.Refusal.the-variants as cause
 use Rattle.cells.specs.Form.{headInForm}
@@ -41,7 +42,7 @@ use Rattle.stepping.proofs.Refused.{refused-begin, refused-step}
 -- ---- What the parts of a step say
 
 -- An accepted step says no number.
-pub accepted-says : (t : Task) (x : Next) (k : ℕ) → stepSaid (answerOf t x) ≡ Refused k → ⊥
+accepted-says : (t : Task) (x : Next) (k : ℕ) → stepSaid (answerOf t x) ≡ Refused k → ⊥
 accepted-says t (Go f v h a) k e = never cc
 accepted-says t Turn k e = never cc
 accepted-says t (End r v) k e = never cc
@@ -53,6 +54,22 @@ module _ (file : List ℕ) (shape : Shape) (cells : List ℕ) (n i : ℕ) (t : T
   touch-says true true k e = absurd (accepted-says t (ledTo file shape cells i t f a) k e)
   touch-says true false k e = cc
   touch-says false used k e = cc
+
+module _ (file : List ℕ) (shape : Shape) (cells : List ℕ) (n i : ℕ) (t : Task) (f : Phase) where
+  -- With a record in form a step says 10, 4, 12 or no number.
+  pub known-says : (P : ℕ → Type 0) → P 10 → P 4 → P 12 → (k : ℕ) → stepSaid (stepFrom file shape cells n i t (record-phase.Known f) .answer) ≡ Refused k → P k
+  known-says P idle entry cell k = by (eqb (t .phase) 0)
+    where
+      a : Access
+      a = planOf file shape i (t .priority) t f
+
+      formed : Bool
+      formed = cellInForm shape n (touched a) (getD cells (touched a) 0)
+
+      by : (b : Bool) → stepSaid (cond b (refuseStep cells t cause.Idle) (touch file shape cells n i t f a) .answer) ≡ Refused k → P k
+      by true e = let z : 10 ≡ k = cc in subst P z idle
+      by false e =
+          subst P (sym (touch-says file shape cells n i t f a formed (usedInRange file shape t (getD cells (touched a) 0) f) k e)) (choice P formed 4 12 entry cell)
 
 -- ---- A step whose tests before 11 are passed
 
@@ -66,20 +83,7 @@ module _ (file cells : List ℕ) (n i : ℕ) (t : Task) (s : StepTested file cel
 
   -- With a record in form it doesn't say 11.
   not-eleven : (f : Phase) → stepSaid (stepFrom file shape cells n i t (record-phase.Known f) .answer) ≡ Refused 11 → ⊥
-  not-eleven f = by (eqb (t .phase) 0)
-    where
-      a : Access
-      a = planOf file shape i (t .priority) t f
-
-      cell-or-entry : (b : Bool) → _≡_ {A = ℕ} 11 (cond b 4 12) → ⊥
-      cell-or-entry true z = omega arith
-      cell-or-entry false z = omega arith
-
-      by : (b : Bool) → stepSaid (cond b (refuseStep cells t cause.Idle) (touch file shape cells n i t f a) .answer) ≡ Refused 11 → ⊥
-      by true e = let z : _≡_ {A = ℕ} 10 11 = cc in omega arith
-      by false e =
-          let word = getD cells (touched a) 0 in
-          cell-or-entry (cellInForm shape n (touched a) word) (touch-says file shape cells n i t f a (cellInForm shape n (touched a) word) (usedInRange file shape t word f) 11 e)
+  not-eleven f e = known-says file shape cells n i t f (λ k. k ≢ 11) (λ z. omega arith) (λ z. omega arith) (λ z. omega arith) 11 e refl
 
   record-said : (stepSaid (stepTask file cells n i t .answer) ≡ Refused 11) ↔ (FitsTable file n t → ⊥)
   record-said = (

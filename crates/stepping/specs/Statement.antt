@@ -7,6 +7,7 @@ use Prim.Native.Nat.{ℕ, _+_, _*_, _<_, _≤_}
 use lib.ListN.{length, getD, take}
 use Rattle.laws.specs.Places.{At}
 use Rattle.refusal.specs.declared.Refusal.{Refusal}
+use Rattle.refusal.specs.Number.{refusedBy}
 use Rattle.cells.specs.Form.{headInForm, cellsInForm}
 use Rattle.cells.specs.Image.{image}
 use Rattle.cells.specs.Layout.{kindIn, headOf, announcementOf}
@@ -14,6 +15,7 @@ use Rattle.cells.specs.Statement.{holderIn, CellFits}
 use Rattle.cells.specs.declared.head.Head.the-variants as head
 use Rattle.cells.specs.declared.announcement.Announcement.the-variants as content
 use Rattle.table.specs.declared.Shape.{Shape}
+use Rattle.table.specs.declared.Checked.{Checked}
 use Rattle.table.specs.declared.Checked.the-variants as table
 use Rattle.table.specs.File.{Bytes, shapeOf}
 use Rattle.table.specs.Layout.{layoutOf}
@@ -122,22 +124,19 @@ StepRecordUnchanged file cells n i t =
 
 -- ---- The number of tasks, for all arguments
 
--- Where the tests before it are passed, 5 is answered exactly for 0 or more than 8 tasks, whatever else is lent: by start where 1 to
--- 4 are, by begin and step where 1 to 3 are.
+-- A table has passed its test, and there are 0 or more than 8 tasks.
+abbrev pub RowRefused : Checked → ℕ → Type 0
+RowRefused tested n = ((shape : Shape) × (tested ≡ table.Accepted shape)) × (1 ≤ n → n ≤ 8 → ⊥)
+
+-- 5 is answered exactly then, whatever else is lent: by start after the tests for 1 to 4, by begin and step after those for 1 to 3.
 abbrev pub StartRowJudged : (file cells : List ℕ) → List Task → Type 0
-StartRowJudged file cells row =
-    (shape : Shape) → checkOf file ≡ table.Accepted shape
-    → (startSaid (startOf file cells row .answer) .number ≡ 5) ↔ (1 ≤ length row → length row ≤ 8 → ⊥)
+StartRowJudged file cells row = (startSaid (startOf file cells row .answer) ≡ refusedBy 5) ↔ RowRefused (checkOf file) (length row)
 
 abbrev pub BeginRowJudged : List ℕ → (n i o : ℕ) → Task → Type 0
-BeginRowJudged file n i o t =
-    (shape : Shape) → layoutOf file ≡ table.Accepted shape
-    → (beginSaid (beginTask file n i o t .answer) ≡ Refused 5) ↔ (1 ≤ n → n ≤ 8 → ⊥)
+BeginRowJudged file n i o t = (beginSaid (beginTask file n i o t .answer) ≡ Refused 5) ↔ RowRefused (layoutOf file) n
 
 abbrev pub StepRowJudged : (file cells : List ℕ) (n i : ℕ) → Task → Type 0
-StepRowJudged file cells n i t =
-    (shape : Shape) → layoutOf file ≡ table.Accepted shape
-    → (stepSaid (stepTask file cells n i t .answer) ≡ Refused 5) ↔ (1 ≤ n → n ≤ 8 → ⊥)
+StepRowJudged file cells n i t = (stepSaid (stepTask file cells n i t .answer) ≡ Refused 5) ↔ RowRefused (layoutOf file) n
 
 -- ---- Cells and records in form and out of form, for all arguments
 

@@ -27,7 +27,7 @@ module _ (file : List ℕ) where
   check-is e = ap (withEntries file) e
 
   -- The layout is refused with a number from 1 to 3.
-  layout-numbers : (cause : Refusal) → layoutOf file ≡ Refused cause → (1 ≤ numberOf cause) × (numberOf cause ≤ 3)
+  pub layout-numbers : (cause : Refusal) → layoutOf file ≡ Refused cause → (1 ≤ numberOf cause) × (numberOf cause ≤ 3)
   unfolding layoutOf
   layout-numbers cause e = by (fileFits file) (dimensionsFit (shapeOf file)) (lengthFits (length file) (shapeOf file)) e
     where
