@@ -2,14 +2,17 @@
 //! second program.
 
 mod both;
+mod files;
+mod smallest;
 
 use both::{By, Lent};
 use drive_object::{Progress, Refusal, Task, MOST_TASKS};
-use reference::refusal;
+use files::files;
+use reference::record::Record;
 use reference::table_file::TableFile;
+use reference::{file_calls, refusal};
 
 /// The numbers of the answers.
-const ROW: u8 = 5;
 const PENDING: u8 = 9;
 const RECORD: u8 = 11;
 
@@ -51,24 +54,52 @@ fn words_have_nothing_beside_the_number_and_the_steps() {
     }
 }
 
-/// A record that is lent alone comes with a number of tasks. Where that has no ceiling begin and step are refused with 5,
-/// which is tested before the cells and the record.
+/// How the second program refuses begin and step for a row of nine, which has no ceiling either: by 1 to 3, or by 5.
+fn refused_for_nine(file: &[u8]) -> u8 {
+    let (mut row, mut cells) = ([Record::default(); MOST_TASKS + 1], [0; MOST_TASKS + 2]);
+    let begun = file_calls::begin(file, &mut row, 0, 2).expect_err("a refusal");
+    let stepped = file_calls::step(file, &mut cells, &mut row, 0).expect_err("a refusal");
+    assert_eq!(begun.number(), stepped.number());
+    begun.number()
+}
+
+/// A record that is lent alone comes with a number of tasks. Where that has no ceiling, begin and step are refused before the
+/// cells and the record are looked at.
 #[test]
 fn numbers_without_a_ceiling_are_refused_by_begin_and_step() {
-    let flag = TableFile::flag().to_bytes();
-    for tasks in numbers_of_tasks().filter(|&tasks| listed(tasks).is_err()) {
-        for record in [
-            Task::default(),
-            pending(2, 0),
-            pending(2, u32::MAX),
-            pending(88, 0),
-        ] {
-            let (mut own, mut cells) = (record, [0; 9]);
-            let begun = drive_object::begin_record(&flag, tasks, 0, 2, &mut own);
-            assert_eq!(begun.map_err(Refusal::number), Err(ROW), "{tasks} tasks");
-            let stepped = drive_object::step_record(&flag, &mut cells, tasks, 0, &mut own);
-            assert_eq!(stepped.map_err(Refusal::number), Err(ROW), "{tasks} tasks");
-            assert_eq!((own, cells), (record, [0; 9]), "{tasks} tasks");
+    for file in files() {
+        let expected = Err(refused_for_nine(&file));
+        for tasks in numbers_of_tasks().filter(|&tasks| listed(tasks).is_err()) {
+            for record in [
+                Task::default(),
+                pending(2, 0),
+                pending(2, u32::MAX),
+                pending(88, 0),
+            ] {
+                let (mut own, mut cells) = (record, [0; 9]);
+                let begun = drive_object::begin_record(&file, tasks, 0, 2, &mut own);
+                assert_eq!(begun.map_err(Refusal::number), expected, "{tasks} tasks");
+                let stepped = drive_object::step_record(&file, &mut cells, tasks, 0, &mut own);
+                assert_eq!(
+                    stepped.map(drop).map_err(Refusal::number),
+                    expected,
+                    "{tasks} tasks"
+                );
+                assert_eq!((own, cells), (record, [0; 9]), "{tasks} tasks");
+            }
+        }
+    }
+}
+
+/// Rows of up to 20 records, and longer ones whose length has 0, 1 or 8 in its low bits.
+#[test]
+fn rows_of_every_length_are_served_as_by_the_second_program() {
+    for file in files() {
+        for tasks in (0..=20).chain([256, 257, 264, 65_536, 65_537, 65_544]) {
+            let mut lent = Lent::new(By::Row, file.clone(), tasks);
+            lent.begin(0, 2);
+            let _ = lent.step(0);
+            lent.start();
         }
     }
 }

@@ -1,40 +1,17 @@
 //! Every refusal of every call, alone and with others, compared with the second program.
 
 mod both;
+mod files;
 mod smallest;
 
 use std::collections::BTreeSet;
 
 use both::{By, Lent};
-use drive_object::{Refusal, Shape, Task, LONGEST_FILE};
+use drive_object::{Refusal, Shape, Task};
+use files::files;
 use reference::refusal;
 use reference::table::Table;
 use reference::table_file::TableFile;
-use smallest::smallest;
-
-/// The flag's file and the smallest one, and one for each of the causes 1 to 4; 4 in each operation.
-fn files() -> Vec<Vec<u8>> {
-    let flag = TableFile::flag();
-    let damaged = |damage: &dyn Fn(&mut TableFile)| {
-        let mut file = flag.clone();
-        damage(&mut file);
-        file.to_bytes()
-    };
-    vec![
-        flag.to_bytes(),
-        smallest().to_bytes(),
-        Vec::new(),
-        damaged(&|file| file.mark[5] = b'2'),
-        damaged(&|file| file.start = 2),
-        damaged(&|file| file.offset = 1),
-        damaged(&|file| file.entries[0] = 2),
-        damaged(&|file| file.entries[8] = 2),
-        damaged(&|file| file.entries[10] = 255),
-        flag.clone().with_text(vec![b' '; 4_096]).to_bytes(),
-        flag.clone().with_text(vec![b' '; 4_097]).to_bytes(),
-        vec![0; LONGEST_FILE + 1],
-    ]
-}
 
 fn pending(phase: u32) -> Task {
     Task {
