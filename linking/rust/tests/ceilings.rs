@@ -1,5 +1,5 @@
-//! The ceiling of every number of tasks, and records whose count of steps stands around a ceiling, compared with the
-//! second program.
+//! Ceilings of small and great numbers of tasks, which of these and which rows are refused with 5, and records whose count
+//! of steps stands around a ceiling, compared with the second program.
 
 mod both;
 mod files;
@@ -93,7 +93,7 @@ fn numbers_without_a_ceiling_are_refused_by_begin_and_step() {
 
 /// Rows of up to 20 records, and longer ones whose length has 0, 1 or 8 in its low bits.
 #[test]
-fn rows_of_every_length_are_served_as_by_the_second_program() {
+fn rows_of_many_lengths_are_answered_as_by_the_second_program() {
     for file in files() {
         for tasks in (0..=20).chain([256, 257, 264, 65_536, 65_537, 65_544]) {
             let mut lent = Lent::new(By::Row, file.clone(), tasks);
