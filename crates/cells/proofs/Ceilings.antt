@@ -39,7 +39,7 @@ unfolding ceilingOf
 no-ceiling n out =
     choice-by (λ c. c ≡ Refused Row) (leb 1 n && leb n 8) (λ e. let range = in-range n e in absurd (out (range .0) (range .1))) (λ _. refl)
 
--- It is refused with 5.
+-- The number that it is told is 5.
 pub ceiling-refused : (n : ℕ) → (1 ≤ n → n ≤ 8 → ⊥) → ceilingSaid (ceilingOf n) .number ≡ 5
 ceiling-refused n out = rw (no-ceiling n out)
 
@@ -52,11 +52,14 @@ pub refused-outside : (n : ℕ) → RefusedOutside n
 refused-outside n = (λ e some few. numbers-apart (sym (product n some few) ∙ e) (λ z. omega arith), λ out. ap ceilingSaid (no-ceiling n out))
 
 -- Whoever is told a ceiling is 1 to 8 tasks, and it is the product.
-pub ceiling-told : (n c : ℕ) → CeilingIs n c → (1 ≤ n) × (n ≤ 8) × (1000 * (n * n * n) ≡ c)
+abbrev pub InRange : (n c : ℕ) → Type 0
+InRange n c = (1 ≤ n) × (n ≤ 8) × (1000 * (n * n * n) ≡ c)
+
+pub ceiling-told : (n c : ℕ) → CeilingIs n c → InRange n c
 unfolding ceilingOf
 ceiling-told n c = by (leb 1 n && leb n 8) refl
   where
-    by : (b : Bool) → leb 1 n && leb n 8 ≡ b → ceilingSaid (cond b (Steps (1000 * (n * n * n))) (Refused Row)) ≡ accepted (c ∷ []) → (1 ≤ n) × (n ≤ 8) × (1000 * (n * n * n) ≡ c)
+    by : (b : Bool) → leb 1 n && leb n 8 ≡ b → ceilingSaid (cond b (Steps (1000 * (n * n * n))) (Refused Row)) ≡ accepted (c ∷ []) → InRange n c
     by true e told = let range = in-range n e in (range .0, range .1, values-same told)
     by false e told = absurd (numbers-apart told (λ z. omega arith))
 

@@ -66,10 +66,10 @@ number-fits Room = omega arith
 pub refused-read : (c : Refusal) → let w = refusedWord c in (refusalIn w ≡ numberOf c) × (flagsIn w ≡ 0) × (lowIn w ≡ 0) × (highIn w ≡ 0)
 refused-read c = parts-read (numberOf c) 0 0 0 (number-fits c) (omega arith) (omega arith)
 
--- A start shows its number: that of the refusal, 0 if the call is accepted.
-pub start-read : (a : StartAnswer) → refusalIn (startWord a) ≡ startSaid a .number
-start-read start.Started = refl
-start-read (start.Refused c) = refused-read c .0
+-- A start shows its number, that of the refusal, 0 if the call is accepted, and nothing else.
+pub start-read : (a : StartAnswer) → let w = startWord a in (refusalIn w ≡ startSaid a .number) × (flagsIn w ≡ 0) × (lowIn w ≡ 0) × (highIn w ≡ 0)
+start-read start.Started = (refl, refl, refl, refl)
+start-read (start.Refused c) = refused-read c
 
 -- A ceiling's word shows its number and the steps, and nothing else.
 pub ceiling-read : (a : Ceiling) → let w = ceilingWord a in
@@ -111,8 +111,8 @@ written-read (written.Length k) = parts-read 0 0 0 k (omega arith) (omega arith)
 written-read (written.Refused c) = refused-read c
 
 -- A check shows its number, and the three numbers of an accepted table.
-pub check-refused-read : (c : Refusal) → refusalIn (checkWord (table.Refused c)) ≡ numberOf c
-check-refused-read c = refused-read c .0
+pub check-refused-read : (c : Refusal) → let w = checkWord (table.Refused c) in (refusalIn w ≡ numberOf c) × (flagsIn w ≡ 0) × (lowIn w ≡ 0) × (highIn w ≡ 0)
+check-refused-read c = refused-read c
 
 pub check-read : (shape : Shape) → shape .states < 65536 → shape .operations < 65536 → let w = checkWord (table.Accepted shape) in
     (refusalIn w ≡ 0) × (lowIn w ≡ shape .states) × (highIn w % 65536 ≡ shape .operations) × (highIn w / 65536 ≡ shape .start)
@@ -132,10 +132,9 @@ ended-read v k h =
     let (number, flags, low, high) = parts-read 0 (endedFlags (v .moved)) (v .response) k (omega arith) (omega (arith, few)) h in
     (number, flags, ap (λ f. f % 2) flags ∙ ended, ap (λ f. f / 2 % 2) flags ∙ moved, low, high)
 
-pub answer-refused-read : (number : ℕ) → number < 256 → (refusalIn (answerWord (paper.Refused number)) ≡ number) × (flagsIn (answerWord (paper.Refused number)) ≡ 0)
-answer-refused-read number h =
-    let parts = parts-read number 0 0 0 h (omega arith) (omega arith) in
-    (parts .0, parts .1)
+pub answer-refused-read : (number : ℕ) → number < 256 → let w = answerWord (paper.Refused number) in
+    (refusalIn w ≡ number) × (flagsIn w ≡ 0) × (lowIn w ≡ 0) × (highIn w ≡ 0)
+answer-refused-read number h = parts-read number 0 0 0 h (omega arith) (omega arith)
 
 -- In a run byte 0 of a begin or a step is 0, 7, 8, 9 or 10.
 pub run-read : {file : List ℕ} {n q : ℕ} {s : Store} (o : Opening file n q s) (xs : List Call) (x : Call)

@@ -18,11 +18,11 @@ use Rattle.records.specs.declared.record.Task.{Task}
 use Rattle.transition.specs.Encoding.{encodeAccess}
 use Rattle.stepping.specs.declared.answer.Begin.{Begin}
 use Rattle.stepping.specs.Step.{TaskOutcome}
-use Rattle.stepping.specs.Call.{StartOutcome}
+use Rattle.stepping.specs.Call.{StartOutcome, startOf, admitStartOf, beginTask, stepTask, admitOf}
 use Rattle.stepping.specs.Runs.{Store}
 use Rattle.stepping.specs.Opening.{Opening, objectIn}
 use Rattle.stepping.specs.Lent.{Places}
-use Rattle.stepping.specs.Statement.{MakesAccess, FollowsResult, Local, OneCell, BeginByRecord, StepByRecord, StartUnchanged, BeginUnchanged, StepUnchanged, BeginRecordUnchanged, StepRecordUnchanged, StartRowJudged, BeginRowJudged, StepRowJudged, RecordJudged, BeginRecordJudged, CellJudged, HolderAbove, SavedHolderAbove, BeginHolderAbove, HeadsInForm, KeepsForm, LeavesInForm, Startable, StartOpens, Demands, SharperDemands, Independent, Answered, Carried, InFormThroughout, Refusals, Endings, Emptied, Between, OpensNext}
+use Rattle.stepping.specs.Statement.{MakesAccess, FollowsResult, Local, OneCell, BeginByRecord, StepByRecord, StartUnchanged, BeginUnchanged, StepUnchanged, BeginRecordUnchanged, StepRecordUnchanged, StartTableRefused, BeginTableRefused, StepTableRefused, StartRowJudged, BeginRowJudged, StepRowJudged, RecordJudged, BeginRecordJudged, CellJudged, HolderAbove, SavedHolderAbove, BeginHolderAbove, HeadsInForm, KeepsForm, LeavesInForm, Startable, StartOpens, Demands, SharperDemands, Independent, Answered, Carried, InFormThroughout, Refusals, Endings, Emptied, Between, OpensNext}
 use Rattle.stepping.proofs.Between.{between, opens-next}
 use Rattle.stepping.proofs.Demands.{opens, points-in-form, history-opened, answer-opened, access-opened, refused-opened, emptied}
 use Rattle.stepping.proofs.Outcomes.{answered, met, unmoved}
@@ -78,9 +78,21 @@ step-record-unchanged file cells n i t c e =
     let same = refused-step file cells n i t c e in
     (ap (λ (out : TaskOutcome). out .cells) same, ap (λ (out : TaskOutcome). out .task) same)
 
--- ---- The number of tasks
+-- ---- The table and the number of tasks
 
--- 5 comes exactly for 0 or more than 8 tasks.
+-- A refused table is answered by its number; after an accepted one 5 comes exactly for 0 or more than 8 tasks.
+pub start-table-refused : (file cells : List ℕ) (row : List Task) → StartTableRefused file cells row
+unfolding startOf admitStartOf
+start-table-refused file cells row c e = rw e
+
+pub begin-table-refused : (file : List ℕ) (n i o : ℕ) (t : Task) → BeginTableRefused file n i o t
+unfolding beginTask admitOf
+begin-table-refused file n i o t c e = rw e
+
+pub step-table-refused : (file cells : List ℕ) (n i : ℕ) (t : Task) → StepTableRefused file cells n i t
+unfolding stepTask admitOf
+step-table-refused file cells n i t c e = rw e
+
 pub start-row-known : (file cells : List ℕ) (row : List Task) → StartRowJudged file cells row
 start-row-known = start-row-judged
 

@@ -7,7 +7,7 @@ use Prim.Native.Nat.{ℕ, _+_, _*_, _<_, _≤_}
 use lib.ListN.{length, getD, take}
 use Rattle.laws.specs.Places.{At}
 use Rattle.refusal.specs.declared.Refusal.{Refusal}
-use Rattle.refusal.specs.Number.{refusedBy}
+use Rattle.refusal.specs.Number.{numberOf, refusedBy, refused}
 use Rattle.cells.specs.Form.{headInForm, cellsInForm}
 use Rattle.cells.specs.Image.{image}
 use Rattle.cells.specs.Layout.{kindIn, headOf, announcementOf}
@@ -122,7 +122,17 @@ abbrev pub StepRecordUnchanged : (file cells : List ℕ) (n i : ℕ) → Task �
 StepRecordUnchanged file cells n i t =
     (c : Refusal) → stepTask file cells n i t .answer ≡ step.Refused c → (stepTask file cells n i t .cells ≡ cells) × (stepTask file cells n i t .task ≡ t)
 
--- ---- The number of tasks, for all arguments
+-- ---- The table and the number of tasks, for all arguments
+
+-- A table that its test refuses is answered by the number of the cause: by start for 1 to 4, by begin and step for 1 to 3.
+abbrev pub StartTableRefused : (file cells : List ℕ) → List Task → Type 0
+StartTableRefused file cells row = (c : Refusal) → checkOf file ≡ table.Refused c → startSaid (startOf file cells row .answer) ≡ refused c
+
+abbrev pub BeginTableRefused : List ℕ → (n i o : ℕ) → Task → Type 0
+BeginTableRefused file n i o t = (c : Refusal) → layoutOf file ≡ table.Refused c → beginSaid (beginTask file n i o t .answer) ≡ Refused (numberOf c)
+
+abbrev pub StepTableRefused : (file cells : List ℕ) (n i : ℕ) → Task → Type 0
+StepTableRefused file cells n i t = (c : Refusal) → layoutOf file ≡ table.Refused c → stepSaid (stepTask file cells n i t .answer) ≡ Refused (numberOf c)
 
 -- A table has passed its test, and there are 0 or more than 8 tasks.
 abbrev pub RowRefused : Checked → ℕ → Type 0
