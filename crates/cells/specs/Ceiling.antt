@@ -22,7 +22,8 @@ ceilingSaid (Refused cause) = refused cause
 abbrev pub greatestCeiling : ℕ
 greatestCeiling = 512000
 
--- Document 01's list of the ceilings for 1 to 8 tasks. No code and no contract uses it: a theorem compares the answers with it.
+-- The contract's list (document 01's) of the ceilings for 1 to 8 tasks. No code and no function's contract uses it: a theorem compares
+-- the answers with it.
 abbrev pub listedCeilings : List ℕ
 listedCeilings = 1000 ∷ 8000 ∷ 27000 ∷ 64000 ∷ 125000 ∷ 216000 ∷ 343000 ∷ 512000 ∷ []
 
