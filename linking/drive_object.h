@@ -1,25 +1,30 @@
 /*
  * The drive object for kernels in C: a table of states and operations that up to eight tasks share through 64-bit
- * cells; the writer of the one file of an object; and the ring desk, which tells what ring owns a chainage and writes
- * the table of a drive. Link with libdrive_object.a. docs/LINKING.md is the page about linking; table files, cells and
- * refusals stand in docs/FORMATS.md, runs and steps in docs/RUNS.md.
+ * cells; the windows, eight bytes a task, through which consoles begin and step; the writer of the one file of an
+ * object; and the ring desk, which tells what ring owns a chainage and writes the table of a drive. Link with
+ * libdrive_object.a. docs/LINKING.md is the page about linking; table files, cells, windows and refusals stand in
+ * docs/FORMATS.md, runs and steps in docs/RUNS.md.
  *
  * What the caller owes, at every call:
- *  - Lent memory is valid for the whole call, to its given length: `file` and `rings` to be read, `cells`, `row`, the
- *    one record `own` and `room` to be read and written. Cells, row and record are aligned to 8 bytes, rings to 4, and
- *    all of these hold values. With length 0 a pointer may have any value; the one to a record is always valid.
- *  - What is lent to one call does not overlap, and nobody else writes it during the call.
- *  - Begin and step are called with switching closed: one call ends before the next one starts.
+ *  - Lent memory is valid for the whole call, to its given length: `file`, `rings` and the `windows` of
+ *    drive_window_line to be read, `cells`, `row`, the one record `own`, `room` and the `windows` of drive_window to be
+ *    read and written. Cells, row and record are aligned to 8 bytes, rings to 4, and all of these hold values. With
+ *    length 0 a pointer may have any value; the one to a record is always valid.
+ *  - What is lent to one call does not overlap, and nobody else writes it during the call, no console either.
+ *  - Begin, step and drive_window are called with switching closed: one call ends before the next one starts.
  *  - Handlers that run on the caller's stack leave the 128 bytes below the stack pointer alone.
- * Within a run (an accepted start and the begins and steps after it) nothing but the calls writes cells, row or
- * table, and every call is lent the same ones. A kernel may instead keep each record with its task: it takes them out
- * of the row after start, and makes every call for a task with the task's record and the row's number of records.
- * Nothing is asked of task, operation, chainage or any length: a call that can't be served is refused. A call keeps no
- * pointer and allocates nothing; start and drive_canonical call memset, and no call anything else.
+ * Within a run (an accepted start and the begins, steps and window calls after it) nothing but the calls writes cells,
+ * row or table, and every call is lent the same ones. A kernel may instead keep each record with its task: it takes
+ * them out of the row after start, and makes every call for a task with the task's record and the row's number of
+ * records. drive_window takes the record from the row. A console may write its bytes of its window between calls.
+ * Nothing is asked of task, operation, chainage, any length or the bytes of a window: a call that can't be served is
+ * refused. A call keeps no pointer and allocates nothing; start and drive_canonical call memset, and no call anything
+ * else.
  *
  * Every call answers with one word, which the drive_answer functions below read. Byte 0, the lowest, is 0 if the call
- * is accepted, else the number of the first cause that holds; then everything lent is left as it was. Bits 2 to 7 of
- * byte 1 are reserved, and no reader looks at them.
+ * is accepted, else the number of the first cause that holds; then everything lent is left as it was, with one
+ * exception: a refused command writes bytes 1, 2, 4 and 5 of its window. Bits 2 to 7 of byte 1 of the word are
+ * reserved, and no reader looks at them.
  */
 #ifndef DRIVE_OBJECT_H
 #define DRIVE_OBJECT_H
@@ -51,23 +56,46 @@ extern "C" {
 /* The longest table file of a drive in bytes, that of 255 rings. */
 #define DRIVE_LONGEST_RING_TABLE 1552
 
+/*
+ * The bytes of a window. The windows of all tasks are lent as one: that of task t begins at byte 8 x t. A console writes
+ * bytes 0, 1 and 6 of its own window, and drive_window bytes 1 to 5.
+ *
+ *     byte  name       holds
+ *     0     operation  the operation that a begin command begins
+ *     1     command    1 begin, 2 step, 3 acknowledge, 0 nothing; drive_window takes a command once, and leaves 0
+ *     2     status     bit 0, busy: from an accepted begin command to the step command that ends the operation
+ *                      bit 1, done: from such a step command to the acknowledge
+ *                      bit 2, refused: from a refused command to the acknowledge
+ *                      bit 3, moved: whether the last operation that was ended so moved the state
+ *     3     response   the response of that operation
+ *     4     refusal    the number of the last refused command, 0 before the first
+ *     5     interrupt  bit 0 is 1 while an interrupt waits: from done or refused to the acknowledge
+ *     6     mask       bit 0 is 1 to mask the interrupt, and changes nothing but the line
+ *     7                nothing; it is never written
+ *
+ * Bits 4 to 7 of status and 1 to 7 of interrupt have no name and stay as they are; those of mask don't count.
+ */
+#define DRIVE_WINDOW_BYTES 8
+
 /* Why a call is not served; docs/FORMATS.md, "When a call is not served". 13 is the bench's own. */
 enum drive_refusal {
-    DRIVE_FILE = 1,        /* file under 16 or over 20,496 bytes, or mark wrong */
-    DRIVE_DIMENSIONS = 2,  /* states or operations out of range, or start state not below states */
-    DRIVE_LENGTH = 3,      /* offset over 4,096, or text, entries and trailer do not make up the length */
-    DRIVE_NEXT_STATE = 4,  /* next state not below states, in the entries tested */
-    DRIVE_ROW = 5,         /* row of 0 or over 8 records */
-    DRIVE_CELLS = 6,       /* cells not one more than records */
-    DRIVE_TASK = 7,        /* task number not below the number of records */
-    DRIVE_OPERATION = 8,   /* operation not below operations */
-    DRIVE_PENDING = 9,     /* begin with an operation pending */
-    DRIVE_IDLE = 10,       /* step with none pending */
-    DRIVE_RECORD = 11,     /* record out of the forms in docs/RECORDS.md */
-    DRIVE_CELL = 12,       /* touched cell out of form, such as a head whose holder is above n */
-    DRIVE_RINGS = 14,      /* list not of 1 to 255 whole rings, or a length or kind out of range */
-    DRIVE_CHAINAGE = 15,   /* chainage that no ring owns */
-    DRIVE_ROOM = 16        /* lent room shorter than what is to be written */
+    DRIVE_FILE = 1,            /* file under 16 or over 20,496 bytes, or mark wrong */
+    DRIVE_DIMENSIONS = 2,      /* states or operations out of range, or start state not below states */
+    DRIVE_LENGTH = 3,          /* offset over 4,096, or text, entries and trailer do not make up the length */
+    DRIVE_NEXT_STATE = 4,      /* next state not below states, in the entries tested */
+    DRIVE_ROW = 5,             /* row of 0 or over 8 records */
+    DRIVE_CELLS = 6,           /* cells not one more than records */
+    DRIVE_TASK = 7,            /* task number not below the number of records */
+    DRIVE_OPERATION = 8,       /* operation not below operations */
+    DRIVE_PENDING = 9,         /* begin with an operation pending */
+    DRIVE_IDLE = 10,           /* step with none pending */
+    DRIVE_RECORD = 11,         /* record out of the forms in docs/RECORDS.md */
+    DRIVE_CELL = 12,           /* touched cell out of form, such as a head whose holder is above n */
+    DRIVE_RINGS = 14,          /* list not of 1 to 255 whole rings, or a length or kind out of range */
+    DRIVE_CHAINAGE = 15,       /* chainage that no ring owns */
+    DRIVE_ROOM = 16,           /* lent room shorter than what is to be written */
+    DRIVE_UNACKNOWLEDGED = 17, /* the window's command is a begin, and done is not acknowledged */
+    DRIVE_WINDOW = 18          /* the window's command is not 0 to 3, or the windows are not 8 bytes for each task */
 };
 
 /* The private record of a task, whose number is its place in the row. Start fills it; only the calls write it. The
@@ -145,6 +173,36 @@ uint64_t drive_step_record(const uint8_t *file, size_t file_length, uint64_t *ce
                            size_t task_count, size_t task, drive_task *own);
 
 /*
+ * Takes the command that stands in a task's window: it begins the operation in byte 0 for the task, makes one step for
+ * it, or acknowledges. Tests 18 on the windows' length, which is DRIVE_WINDOW_BYTES for each record of the row, then 7;
+ * refused by one of these no byte changes. Command 0 is accepted, nothing more is tested and nothing is written. Else
+ * it tests 18 on the command, then 17 if it is a begin while done is 1; then a begin tests what drive_begin does, a step
+ * what drive_step does, in their orders, and an acknowledge nothing.
+ *
+ * Writes cells and row as drive_begin or drive_step would, and of the windows that of the task alone:
+ *  - by every command: command 0;
+ *  - a begin: busy 1;
+ *  - a step, running: nothing else;
+ *  - a step that ended the operation: busy 0, done 1, moved 0 or 1, the low byte of the response, interrupt 1;
+ *  - an acknowledge: done 0, refused 0, interrupt 0;
+ *  - a refused command: refused 1, its number in byte 4, interrupt 1; no cell and no record.
+ * Answers nothing but the refusal. Its cost is that of the call that it makes.
+ *
+ * A console whose window is all 0 at the start of the run, and that writes only bytes 0, 1 and 6 of it, nobody else
+ * writing there or calling for its task, reads in it what drive_begin and drive_step in the same places would answer,
+ * but for the count of own steps, 17 and 18. Start does not touch windows.
+ */
+uint64_t drive_window(const uint8_t *file, size_t file_length, uint64_t *cells, size_t cell_count, drive_task *row,
+                      size_t task_count, uint8_t *windows, size_t window_length, size_t task);
+
+/*
+ * Whether the interrupt line of a task's window is up: bit 0 of byte 5 is 1, and bit 0 of byte 6 is 0. Tests 18 on the
+ * windows' length, which is DRIVE_WINDOW_BYTES for each of task_count tasks, then 7. Writes nothing. Answers whether
+ * the line is up.
+ */
+uint64_t drive_window_line(const uint8_t *windows, size_t window_length, size_t task_count, size_t task);
+
+/*
  * The ceiling of own steps of an operation, whatever the other tasks do: 1,000 x n x n x n for n tasks, 1 to 8. Tests 5 on
  * the number of tasks. Writes nothing. Answers the ceiling.
  */
@@ -193,6 +251,9 @@ static inline uint16_t drive_answer_operations(uint64_t answer) { return (uint16
 
 /* Of an accepted check: the start state. */
 static inline uint16_t drive_answer_start_state(uint64_t answer) { return (uint16_t)(answer >> 48); }
+
+/* Of an accepted question for the line of a window: whether it is up. */
+static inline bool drive_answer_line(uint64_t answer) { return answer >> 16 & 1; }
 
 /* Of an accepted ceiling: the number of own steps. */
 static inline uint32_t drive_answer_ceiling(uint64_t answer) { return (uint32_t)(answer >> 32); }

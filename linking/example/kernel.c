@@ -1,7 +1,8 @@
 /*
- * A kernel in C over the drive object: three tasks take turns, one step to a turn, over the flag object. Task 1 is
- * stopped for good inside an operation, with its mark in the head; a lock would be held there for ever. The others
- * end all of their operations all the same.
+ * A kernel in C over the drive object: three tasks take turns, one step to a turn, over the flag object. Task 0 is a
+ * console, which writes commands into its window and reads there what came of them. Task 1 is stopped for good inside
+ * an operation, with its mark in the head; a lock would be held there for ever. The others end all of their operations
+ * all the same.
  *
  * usage: kernel TABLE_FILE
  */
@@ -16,6 +17,14 @@ enum { TASKS = 3, MOST_OPERATIONS = 4 };
 
 /* The flag object's operations: the response is the old state. */
 enum { READ, SET, CLEAR };
+
+/* The task that works through its window, and calls nothing. */
+enum { CONSOLE = 0 };
+
+/* The bytes of a window that the console uses, its commands, and the bits of its status. */
+enum { OPERATION, COMMAND, STATUS, RESPONSE, REFUSAL };
+enum { BEGIN = 1, STEP = 2, ACKNOWLEDGE = 3 };
+enum { BUSY = 1 << 0, DONE = 1 << 1, REFUSED = 1 << 2, MOVED = 1 << 3 };
 
 /* The task that is stopped in its last operation, as soon as it has its mark in the head. */
 enum { STOPPED = 1 };
@@ -40,6 +49,7 @@ struct kernel {
     uint64_t cells[TASKS + 1];
     drive_task row[TASKS];
     drive_task apart;
+    uint8_t windows[TASKS * DRIVE_WINDOW_BYTES];
     uint32_t ceiling;
     size_t ended[TASKS];
     uint32_t own_steps[TASKS];
@@ -112,19 +122,13 @@ static unsigned next_state(size_t operation, unsigned state) {
 }
 
 /* The flag is raised by a set that answers 0 and lowered by a clear that answers 1. */
-static void note_end(struct kernel *kernel, size_t task, size_t operation, uint64_t answer) {
-    unsigned response = drive_answer_response(answer);
-    bool moved = drive_answer_moved(answer);
-    uint32_t steps = drive_answer_steps(answer);
+static void note_end(struct kernel *kernel, size_t task, size_t operation, unsigned response, bool moved) {
     expect(moved == (next_state(operation, response) != response), "the answer is wrong about whether the flag moved");
-    expect(steps == kernel->own_steps[task], "the answered count is not the number of steps");
-    expect(steps <= kernel->ceiling, "an operation passes the ceiling");
-    kernel->pending[task] = false;
     kernel->ended[task] += 1;
     kernel->raised += operation == SET && response == 0;
     kernel->lowered += operation == CLEAR && response == 1;
-    printf("task %zu operation %zu answers %u, %s, own steps %" PRIu32 "\n", task, operation, response,
-           moved ? "moved" : "not moved", steps);
+    printf("task %zu operation %zu answers %u, %s, own steps %" PRIu32 "%s\n", task, operation, response,
+           moved ? "moved" : "not moved", kernel->own_steps[task], task == CONSOLE ? ", by its window" : "");
 }
 
 static void note_stop(struct kernel *kernel, size_t task, size_t operation) {
@@ -149,6 +153,11 @@ static uint64_t step(struct kernel *kernel, size_t task) {
     return drive_step(kernel->file, kernel->file_length, kernel->cells, TASKS + 1, kernel->row, TASKS, task);
 }
 
+static void count_step(struct kernel *kernel, size_t task) {
+    kernel->own_steps[task] += 1;
+    expect(kernel->own_steps[task] <= kernel->ceiling, "an operation passes the ceiling");
+}
+
 /* Begins the task's next operation if it is idle, and makes one step. A real kernel closes switching around both. */
 static void turn_of(struct kernel *kernel, size_t task) {
     size_t operation = programs[task].operations[kernel->ended[task]];
@@ -159,10 +168,12 @@ static void turn_of(struct kernel *kernel, size_t task) {
     }
     uint64_t answer = step(kernel, task);
     expect_accepted(answer, "step");
-    kernel->own_steps[task] += 1;
-    expect(kernel->own_steps[task] <= kernel->ceiling, "an operation passes the ceiling");
+    count_step(kernel, task);
     if (drive_answer_ended(answer)) {
-        note_end(kernel, task, operation, answer);
+        uint32_t steps = drive_answer_steps(answer);
+        expect(steps == kernel->own_steps[task], "the answered count is not the number of steps");
+        kernel->pending[task] = false;
+        note_end(kernel, task, operation, drive_answer_response(answer), drive_answer_moved(answer));
     }
     bool in_last = kernel->ended[task] + 1 == programs[task].count;
     bool marked = kernel->cells[0] >> task & 1;
@@ -171,14 +182,69 @@ static void turn_of(struct kernel *kernel, size_t task) {
     }
 }
 
+static uint8_t *console_window(struct kernel *kernel) {
+    return kernel->windows + CONSOLE * DRIVE_WINDOW_BYTES;
+}
+
+/* The console writes a command, and the kernel makes the window call, with switching closed. */
+static uint64_t command(struct kernel *kernel, uint8_t number) {
+    console_window(kernel)[COMMAND] = number;
+    return drive_window(kernel->file, kernel->file_length, kernel->cells, TASKS + 1, kernel->row, TASKS,
+                        kernel->windows, sizeof kernel->windows, CONSOLE);
+}
+
+static void expect_line(const struct kernel *kernel, bool up, const char *what) {
+    uint64_t line = drive_window_line(kernel->windows, sizeof kernel->windows, TASKS, CONSOLE);
+    expect_accepted(line, "the line");
+    expect(drive_answer_line(line) == up, what);
+}
+
+/* The console finds the line up, and after its acknowledge down. */
+static void acknowledge(struct kernel *kernel) {
+    expect_line(kernel, true, "the line is down while an interrupt waits");
+    expect_accepted(command(kernel, ACKNOWLEDGE), "acknowledge");
+    expect_line(kernel, false, "the line is up after the acknowledge");
+}
+
+/* The console asks for a step before it has begun anything, and reads in its window why that is refused. */
+static void step_too_early(struct kernel *kernel) {
+    const uint8_t *window = console_window(kernel);
+    expect(drive_answer_refusal(command(kernel, STEP)) == window[REFUSAL], "the window has another refusal");
+    expect(window[STATUS] & REFUSED, "the window does not say that a command was refused");
+    printf("task %d step refused with %u, by its window\n", CONSOLE, (unsigned)window[REFUSAL]);
+    acknowledge(kernel);
+}
+
+/* A turn of the console, which sees its window alone. That has no byte for its steps, so it counts them. */
+static void turn_of_console(struct kernel *kernel) {
+    uint8_t *window = console_window(kernel);
+    size_t operation = programs[CONSOLE].operations[kernel->ended[CONSOLE]];
+    if (!(window[STATUS] & BUSY)) {
+        window[OPERATION] = (uint8_t)operation;
+        expect_accepted(command(kernel, BEGIN), "begin by the window");
+        kernel->own_steps[CONSOLE] = 0;
+    }
+    expect_accepted(command(kernel, STEP), "step by the window");
+    count_step(kernel, CONSOLE);
+    if (window[STATUS] & DONE) {
+        note_end(kernel, CONSOLE, operation, window[RESPONSE], window[STATUS] & MOVED);
+        acknowledge(kernel);
+    }
+}
+
 /* A turn of every task that is neither stopped nor done; no, if there is none. */
 static bool turn(struct kernel *kernel) {
     bool any = false;
     for (size_t task = 0; task < TASKS; task++) {
         bool stands_still = task == STOPPED && kernel->stopped;
-        if (!stands_still && kernel->ended[task] < programs[task].count) {
+        if (stands_still || kernel->ended[task] == programs[task].count) {
+            continue;
+        }
+        any = true;
+        if (task == CONSOLE) {
+            turn_of_console(kernel);
+        } else {
             turn_of(kernel, task);
-            any = true;
         }
     }
     return any;
@@ -202,6 +268,7 @@ int main(int count, char **words) {
     expect(count == 2, "usage: kernel TABLE_FILE");
     read_file(&kernel, words[1]);
     start(&kernel);
+    step_too_early(&kernel);
     while (turn(&kernel)) {
     }
     close_run(&kernel);

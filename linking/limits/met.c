@@ -23,7 +23,27 @@ enum { STEPS = 20000, SAMPLES = 8 };
 /* The numbers of phases are below it. */
 enum { PHASES = 88 };
 
-enum call { CHECK, CANONICAL, START, BEGIN, STEP, BEGIN_RECORD, STEP_RECORD, CEILING, OWNER, TABLE, CALLS };
+/* By which calls the steps of a run are made. */
+enum by { BY_ROW, BY_RECORD, BY_WINDOW, WAYS };
+
+/* Two bytes of a window, and two commands. */
+enum { COMMAND_BYTE = 1, INTERRUPT_BYTE = 5, BEGIN_COMMAND = 1, STEP_COMMAND = 2 };
+
+enum call {
+    CHECK,
+    CANONICAL,
+    START,
+    BEGIN,
+    STEP,
+    BEGIN_RECORD,
+    STEP_RECORD,
+    WINDOW,
+    WINDOW_LINE,
+    CEILING,
+    OWNER,
+    TABLE,
+    CALLS
+};
 
 static struct {
     const char *name;
@@ -38,6 +58,8 @@ static struct {
     [STEP] = {.name = "drive_step"},
     [BEGIN_RECORD] = {.name = "drive_begin_record"},
     [STEP_RECORD] = {.name = "drive_step_record"},
+    [WINDOW] = {.name = "drive_window"},
+    [WINDOW_LINE] = {.name = "drive_window_line"},
     [CEILING] = {.name = "drive_ceiling"},
     [OWNER] = {.name = "desk_owner"},
     [TABLE] = {.name = "desk_table"},
@@ -112,6 +134,7 @@ static void note(enum call call, const char *where) {
 struct lent {
     uint64_t cells[DRIVE_MOST_TASKS + 1];
     drive_task row[DRIVE_MOST_TASKS];
+    uint8_t windows[DRIVE_MOST_TASKS * DRIVE_WINDOW_BYTES];
     size_t tasks;
 };
 
@@ -157,31 +180,42 @@ static void damage(struct lent *lent, size_t task) {
 }
 
 /* Whether few steps like this one were watched. */
-static bool is_rare(bool by_record, const struct lent *lent, size_t task) {
-    static unsigned watched[DRIVE_MOST_TASKS + 1][2][PHASES + 1][PHASES + DRIVE_CELL + 1];
+static bool is_rare(enum by by, const struct lent *lent, size_t task) {
+    static unsigned watched[DRIVE_MOST_TASKS + 1][WAYS][PHASES + 1][PHASES + DRIVE_CELL + 1];
     struct lent after = *lent;
     uint64_t answer = drive_step(file, file_length, after.cells, lent->tasks + 1, after.row, lent->tasks, task);
     unsigned refusal = drive_answer_refusal(answer);
     uint32_t phase = lent->row[task].phase;
     size_t before = phase < PHASES ? phase : PHASES;
     size_t outcome = refusal != 0 ? PHASES + refusal : after.row[task].phase;
-    return watched[lent->tasks][by_record][before][outcome]++ < SAMPLES;
+    return watched[lent->tasks][by][before][outcome]++ < SAMPLES;
 }
 
-static void step(bool by_record, struct lent *lent, size_t task, const char *where) {
+/* Makes the command that is put into the task's window, whose operation is the reading one. */
+static void command(struct lent *lent, size_t task, uint8_t number, const char *where) {
+    size_t tasks = lent->tasks;
+    size_t length = tasks * DRIVE_WINDOW_BYTES;
+    lent->windows[task * DRIVE_WINDOW_BYTES + COMMAND_BYTE] = number;
+    WATCHED(WINDOW, where, drive_window, file, file_length, lent->cells, tasks + 1, lent->row, tasks, lent->windows,
+            length, task);
+}
+
+static void step(enum by by, struct lent *lent, size_t task, const char *where) {
     size_t tasks = lent->tasks;
     drive_task *own = &lent->row[task];
-    if (!is_rare(by_record, lent, task)) {
+    if (!is_rare(by, lent, task)) {
         drive_step(file, file_length, lent->cells, tasks + 1, lent->row, tasks, task);
-    } else if (by_record) {
+    } else if (by == BY_RECORD) {
         WATCHED(STEP_RECORD, where, drive_step_record, file, file_length, lent->cells, tasks + 1, tasks, task, own);
+    } else if (by == BY_WINDOW) {
+        command(lent, task, STEP_COMMAND, where);
     } else {
         WATCHED(STEP, where, drive_step, file, file_length, lent->cells, tasks + 1, lent->row, tasks, task);
     }
 }
 
 /* A run in random order; every step is made on a damaged copy too. */
-static void random_run(bool by_record, size_t tasks) {
+static void random_run(enum by by, size_t tasks) {
     struct lent lent = {.tasks = tasks};
     drive_start(file, file_length, lent.cells, tasks + 1, lent.row, tasks);
     for (size_t made = 0; made < STEPS; made++) {
@@ -191,8 +225,8 @@ static void random_run(bool by_record, size_t tasks) {
         }
         struct lent damaged = lent;
         damage(&damaged, task);
-        step(by_record, &damaged, task, "a step after one bit of a run was changed");
-        step(by_record, &lent, task, "a step of a random run");
+        step(by, &damaged, task, "a step after one bit of a run was changed");
+        step(by, &lent, task, "a step of a random run");
     }
 }
 
@@ -201,8 +235,18 @@ static void start_and_begins(size_t tasks) {
     struct lent lent = {.tasks = tasks};
     WATCHED(START, "the largest table", drive_start, file, file_length, lent.cells, tasks + 1, lent.row, tasks);
     drive_task own = lent.row[0];
+    struct lent by_window = lent;
+    command(&by_window, 0, BEGIN_COMMAND, where);
     WATCHED(BEGIN, where, drive_begin, file, file_length, lent.row, tasks, 0, READING);
     WATCHED(BEGIN_RECORD, where, drive_begin_record, file, file_length, tasks, 0, READING, &own);
+}
+
+/* A line that is up, of the last task. */
+static void line_call(size_t tasks) {
+    uint8_t windows[DRIVE_MOST_TASKS * DRIVE_WINDOW_BYTES] = {0};
+    size_t length = tasks * DRIVE_WINDOW_BYTES;
+    windows[length - DRIVE_WINDOW_BYTES + INTERRUPT_BYTE] = 1;
+    WATCHED(WINDOW_LINE, "a line that is up", drive_window_line, windows, length, tasks, tasks - 1);
 }
 
 /* All states of the largest table can be reached, so its file is the longest. */
@@ -242,8 +286,10 @@ int main(void) {
     for (size_t tasks = 1; tasks <= DRIVE_MOST_TASKS; tasks++) {
         WATCHED(CEILING, "an accepted call", drive_ceiling, tasks);
         start_and_begins(tasks);
-        random_run(false, tasks);
-        random_run(true, tasks);
+        line_call(tasks);
+        for (enum by by = BY_ROW; by < WAYS; by++) {
+            random_run(by, tasks);
+        }
     }
     for (enum call call = 0; call < CALLS; call++) {
         printf("%s %" PRIu64 " %" PRIu64 " %s\n", met[call].name, met[call].instructions, met[call].stack,

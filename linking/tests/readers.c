@@ -34,6 +34,17 @@ static void read_check(uint64_t reserved) {
     assert(drive_answer_start_state(checked) == 0x1234);
 }
 
+static void read_line(uint64_t reserved) {
+    for (unsigned bit = 0; bit < 1 << 1; bit++) {
+        uint64_t zeros = (uint64_t)bit << 16 | reserved;
+        uint64_t line = UINT64_C(0x12345678abcc0000) | zeros;
+        assert(drive_answer_refusal(zeros) == 0);
+        assert(drive_answer_line(zeros) == bit);
+        assert(drive_answer_refusal(line) == 0);
+        assert(drive_answer_line(line) == bit);
+    }
+}
+
 static void read_ceiling(uint64_t reserved) {
     uint64_t ceiling = UINT64_C(0x1234567800000000) | reserved;
     assert(drive_answer_refusal(ceiling) == 0);
@@ -57,6 +68,7 @@ static void read_refusals(uint64_t reserved) {
         assert(drive_answer_refusal(number | reserved) == number);
         assert(!drive_answer_ended(number | reserved));
         assert(!drive_answer_moved(number | reserved));
+        assert(!drive_answer_line(number | reserved));
     }
 }
 
@@ -65,6 +77,7 @@ int main(void) {
         uint64_t reserved = bits << 10;
         read_step(reserved);
         read_check(reserved);
+        read_line(reserved);
         read_ceiling(reserved);
         read_owner(reserved);
         read_written(reserved);

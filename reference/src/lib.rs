@@ -53,6 +53,13 @@ pub mod trace;
 pub mod trace_event;
 mod trace_steps;
 mod transition;
+pub mod window;
+pub mod window_cases;
+pub mod window_runs;
+mod window_stores;
+#[cfg(test)]
+mod window_tests;
+pub mod window_twin;
 #[cfg(test)]
 mod wrong_builds;
 #[cfg(test)]

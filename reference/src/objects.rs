@@ -5,14 +5,16 @@ use crate::table_file::TableFile;
 
 pub fn explored_objects() -> Vec<(&'static str, Table<'static>)> {
     let named = |(name, file): (&'static str, TableFile)| (name, checked(file));
+    explored_files().map(named).into()
+}
+
+pub fn explored_files() -> [(&'static str, TableFile); 4] {
     [
         ("flag", TableFile::flag()),
         ("counter", counter()),
         ("latch", latch()),
         ("switch", switch()),
     ]
-    .map(named)
-    .into()
 }
 
 fn checked(file: TableFile) -> Table<'static> {

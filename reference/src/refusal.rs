@@ -34,6 +34,10 @@ pub enum Refusal {
     Chainage,
     /// Lent room shorter than what is written there.
     Room,
+    /// The window's command is a begin, and done is not acknowledged.
+    Unacknowledged,
+    /// The window's command is not 0 to 3, or the windows are not 8 bytes for each task.
+    Window,
 }
 
 impl Refusal {
@@ -55,6 +59,8 @@ impl Refusal {
             Refusal::Rings => 14,
             Refusal::Chainage => 15,
             Refusal::Room => 16,
+            Refusal::Unacknowledged => 17,
+            Refusal::Window => 18,
         }
     }
 }

@@ -216,6 +216,8 @@ fn sentence(refusal: Refusal) -> &'static str {
         }
         Refusal::Chainage => "no ring owns the chainage",
         Refusal::Room => "the room is shorter than what is to be written",
+        Refusal::Unacknowledged => "the window's command is a begin, and done is not acknowledged",
+        Refusal::Window => "the window's command is not 0 to 3, or the windows are not 8 bytes for each task",
     }
 }
 

@@ -19,13 +19,15 @@ pub fn cut(input: &[u8]) -> impl Iterator<Item = &[u8]> {
     lines.map(|line| line.strip_suffix(b"\n").unwrap_or(line))
 }
 
+/// The fields of a line, parted by single spaces; none if it is too long.
+pub fn fields(line: &[u8]) -> Option<Vec<&[u8]>> {
+    let fits = line.len() <= LONGEST;
+    fits.then(|| line.split(|byte| *byte == b' ').collect())
+}
+
 /// The command of a line; none if its form isn't known.
 pub fn command(line: &[u8]) -> Option<Command> {
-    if line.len() > LONGEST {
-        return None;
-    }
-    let fields: Vec<&[u8]> = line.split(|byte| *byte == b' ').collect();
-    match fields.as_slice() {
+    match fields(line)?.as_slice() {
         [b"n", tasks] => Some(Command::Start(number(tasks)?)),
         [b"b", task, operation] => Some(Command::Begin(number(task)?, number(operation)?)),
         [b"s", task] => Some(Command::Step(number(task)?)),
@@ -36,7 +38,7 @@ pub fn command(line: &[u8]) -> Option<Command> {
 }
 
 /// One to three digits.
-fn number(field: &[u8]) -> Option<usize> {
+pub fn number(field: &[u8]) -> Option<usize> {
     let digits = (1..=3).contains(&field.len()) && field.iter().all(u8::is_ascii_digit);
     digits.then(|| {
         field

@@ -1,10 +1,11 @@
-//! `drive`: looks at objects, runs and rings through the proved library, for people. What it shows of a call is what the
-//! archive answered and left.
+//! `drive`: looks at objects, runs, windows and rings through the proved library, for people. What it shows of a call is
+//! what the archive answered and left.
 
 mod canonical;
 mod ceiling;
 mod chart;
 mod check;
+mod consoles;
 mod difference;
 mod legend;
 mod lines;
@@ -28,6 +29,8 @@ mod svg;
 mod table;
 mod text;
 mod timeline;
+mod window;
+mod window_lines;
 mod word;
 
 use std::ffi::{OsStr, OsString};
@@ -37,7 +40,7 @@ use std::process::ExitCode;
 use drive_object::LONGEST_FILE;
 
 /// The forms of the commands, and what each gives.
-const FORMS: [(&str, &str); 12] = [
+const FORMS: [(&str, &str); 13] = [
     (
         "check TABLE",
         "the shape of an object file, and which operations change the state",
@@ -57,6 +60,10 @@ const FORMS: [(&str, &str); 12] = [
         "picture TABLE LINES > X.svg",
         "the same as a timeline of tasks and cells",
     ),
+    (
+        "window TABLE LINES",
+        "lines of consoles and tasks, each with what a console reads now",
+    ),
     ("ceiling N", "how many own steps an operation of N tasks can take"),
     (
         "ceiling --chart > X.svg",
@@ -71,11 +78,12 @@ const FORMS: [(&str, &str); 12] = [
 ];
 
 const FIRST: &str =
-    "drive looks at objects that tasks share, at their runs, and at rings, through the proved library.\n\n";
+    "drive looks at objects that tasks share, at their runs and windows, and at rings, through the proved library.\n\n";
 
 const LAST: &str = "
-TABLE, A, B, TEXT, LINES and RINGS are files; - is the standard input. docs/FORMATS.md says what a table and the bench's lines
-are, tools/README.md what the texts of an object and of rings are. CHAINAGE is in whole millimetres.
+TABLE, A, B, TEXT, LINES and RINGS are files; - is the standard input. docs/FORMATS.md says what a table, the bench's lines and
+a window are, tools/README.md what the texts of an object and of rings and the lines about windows are. CHAINAGE is in whole
+millimetres.
 Exit status: 0, or 1 if something was refused or could not be read; the reason then stands on the standard error. A line
 of a run that is refused is part of its story, and no error. If A and B are not one object, the exit status is 2.
 ";
@@ -158,7 +166,7 @@ fn answer_to_two(command: &OsStr, one: &OsStr, other: &OsStr) -> Result<Answer, 
             let chainage = owner::chainage_of(&other.to_string_lossy())?;
             owner::report(&read(one)?, chainage).map(Answer::from)
         }
-        Some("same" | "run" | "picture") if one == "-" && other == "-" => {
+        Some("same" | "run" | "picture" | "window") if one == "-" && other == "-" => {
             Err("the standard input can be only one of the files".into())
         }
         Some("same") => {
@@ -171,6 +179,7 @@ fn answer_to_two(command: &OsStr, one: &OsStr, other: &OsStr) -> Result<Answer, 
         }
         Some("run") => narrative::story(&read_table(one)?, &read(other)?).map(Answer::from),
         Some("picture") => picture::timeline(&read_table(one)?, &read(other)?).map(Answer::from),
+        Some("window") => consoles::story(&read_table(one)?, &read(other)?).map(Answer::from),
         _ => Err(other_words(command)),
     }
 }

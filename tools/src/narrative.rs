@@ -24,7 +24,7 @@ pub fn story(file: &[u8], input: &[u8]) -> Result<String, String> {
 }
 
 /// A line of input; a long one as far as a line may go.
-fn shown(line: &[u8]) -> String {
+pub fn shown(line: &[u8]) -> String {
     match line.get(..LONGEST) {
         Some(first) if line.len() > LONGEST => format!("{}...", escape_ascii(first)),
         _ => escape_ascii(line),
@@ -32,7 +32,7 @@ fn shown(line: &[u8]) -> String {
 }
 
 /// The lines of an event.
-fn told(event: &Event, shape: Shape) -> Vec<String> {
+pub fn told(event: &Event, shape: Shape) -> Vec<String> {
     let line = match event {
         Event::Printed(cells) => return cell_lines(cells),
         Event::Started { tasks } => {

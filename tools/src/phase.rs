@@ -87,6 +87,11 @@ const RANGES: [Row; 9] = [
 const FIRST_RANGE: usize = 16;
 const RANGE: usize = 8;
 
+/// Whether a record has no operation pending.
+pub fn is_idle(record: &Task) -> bool {
+    record.phase == 0
+}
+
 /// Whether the operation that begin has left a record for is changing: begin leaves phase 2 then, and phase 1 for a
 /// reading one.
 pub fn begun_changing(record: &Task) -> Option<bool> {

@@ -4,7 +4,7 @@ use drive_object::{begin, start, step, Progress, Refusal, Shape, Task};
 
 use crate::lines::{self, Command};
 use crate::object::Object;
-use crate::phase::{begun_changing, planned, Access, Planned};
+use crate::phase::{begun_changing, is_idle, planned, Access, Planned};
 use crate::refused;
 use crate::reply::Reply;
 use crate::word;
@@ -81,9 +81,8 @@ fn serve_line<'a>(file: &[u8], shape: Shape, run: &mut Option<Run>, line: &'a [u
     let printed = match (lines::command(line), run.as_mut()) {
         (Some(Command::Start(tasks)), _) => match Run::start(file, tasks) {
             Ok(started) => {
-                let state = word::state(started.cells[0]);
+                events.extend(started.opening());
                 *run = Some(started);
-                events.extend([Event::Started { tasks }, Event::Rest { state }]);
                 Some(format!("n {tasks} {} {}", shape.states, shape.operations))
             }
             Err(refusal) => refuse(&mut events, refusal),
@@ -107,15 +106,21 @@ fn refuse(events: &mut Vec<Event>, refusal: Refusal) -> Option<String> {
 }
 
 /// What the library is lent, and which operations are pending by the calls and their answers.
-struct Run {
-    cells: Vec<u64>,
-    row: Vec<Task>,
+pub struct Run {
+    pub cells: Vec<u64>,
+    pub row: Vec<Task>,
     /// For each task its pending operation, and whether it is changing.
     pending: Vec<Option<(usize, bool)>>,
 }
 
+/// The cells and a task's record at a point.
+pub struct Point {
+    cells: Vec<u64>,
+    record: Task,
+}
+
 impl Run {
-    fn start(file: &[u8], tasks: usize) -> Result<Run, Refusal> {
+    pub fn start(file: &[u8], tasks: usize) -> Result<Run, Refusal> {
         let mut cells = vec![0; tasks + 1];
         let mut row = vec![Task::default(); tasks];
         start(file, &mut cells, &mut row)?;
@@ -126,8 +131,28 @@ impl Run {
         })
     }
 
+    /// The events of the start.
+    pub fn opening(&self) -> [Event; 2] {
+        let tasks = self.row.len();
+        [Event::Started { tasks }, self.rest()]
+    }
+
+    fn rest(&self) -> Event {
+        Event::Rest {
+            state: word::state(self.cells[0]),
+        }
+    }
+
+    /// The present point, as far as it concerns a task.
+    pub fn point(&self, task: usize) -> Point {
+        Point {
+            cells: self.cells.clone(),
+            record: self.row.get(task).copied().unwrap_or_default(),
+        }
+    }
+
     /// Serves a line other than `n`; the line that the bench prints.
-    fn serve(&mut self, file: &[u8], command: Command, events: &mut Vec<Event>) -> Option<String> {
+    pub fn serve(&mut self, file: &[u8], command: Command, events: &mut Vec<Event>) -> Option<String> {
         let served = match command {
             Command::Begin(task, operation) => self.begin(file, task, operation, events).map(|()| None),
             Command::Step(task) => self.step(file, task, events),
@@ -150,29 +175,25 @@ impl Run {
     ) -> Result<(), Refusal> {
         begin(file, &mut self.row, task, operation)?;
         let changing = begun_changing(&self.row[task]).expect("begin leaves phase 1 or 2");
+        events.push(self.begun(task, operation, changing));
+        Ok(())
+    }
+
+    fn begun(&mut self, task: usize, operation: usize, changing: bool) -> Event {
         self.pending[task] = Some((operation, changing));
-        events.push(Event::Begun {
+        Event::Begun {
             task,
             operation,
             changing,
-        });
-        Ok(())
+        }
     }
 
     /// One step; the bench's line if it ends the operation.
     fn step(&mut self, file: &[u8], task: usize, events: &mut Vec<Event>) -> Result<Option<String>, Refusal> {
-        let record = self.row.get(task).copied().unwrap_or_default();
-        let cells = self.cells.clone();
+        let before = self.point(task);
         let progress = step(file, &mut self.cells, &mut self.row, task)?;
-        let planned = planned(task, &record).expect("the record of an accepted step has a phase");
-        let (before, after) = (cells[planned.cell], self.cells[planned.cell]);
-        events.push(Event::Stepped(Step {
-            task,
-            count: record.steps + 1,
-            planned,
-            before,
-            after,
-        }));
+        let planned = planned(task, &before.record).expect("the record of an accepted step has a phase");
+        events.push(self.stepped(task, &before, planned));
         match progress {
             Progress::Running => Ok(None),
             Progress::Ended {
@@ -184,6 +205,36 @@ impl Run {
                 self.end(task, Reply { response, moved }, steps, events);
                 Ok(Some(format!("r {task} {response} {}", u8::from(moved))))
             }
+        }
+    }
+
+    fn stepped(&self, task: usize, before: &Point, planned: Planned) -> Event {
+        let cell = planned.cell;
+        Event::Stepped(Step {
+            task,
+            count: before.record.steps + 1,
+            planned,
+            before: before.cells[cell],
+            after: self.cells[cell],
+        })
+    }
+
+    /// What a call did that doesn't answer it, by the task's record before it and the one that it left: it began an
+    /// operation, or made a step. `reply` is that of the operation, if the step has ended it.
+    pub fn follow(&mut self, task: usize, before: &Point, reply: Reply, events: &mut Vec<Event>) {
+        let left = self.point(task).record;
+        if left == before.record {
+            return;
+        }
+        match (planned(task, &before.record), begun_changing(&left)) {
+            (Some(planned), _) => {
+                events.push(self.stepped(task, before, planned));
+                if is_idle(&left) {
+                    self.end(task, reply, before.record.steps + 1, events);
+                }
+            }
+            (None, Some(changing)) => events.push(self.begun(task, usize::from(left.operation), changing)),
+            (None, None) => {}
         }
     }
 
@@ -199,9 +250,7 @@ impl Run {
         });
         let resting = !self.pending.iter().flatten().any(|(_, changing)| *changing);
         if changing && resting {
-            events.push(Event::Rest {
-                state: word::state(self.cells[0]),
-            });
+            events.push(self.rest());
         }
     }
 

@@ -8,7 +8,7 @@ use native.Mathlib.Omega.{arith}
 use Rattle.laws.specs.Bit.{bit}
 use Rattle.refusal.specs.Number.{numberOf, Said}
 use Rattle.refusal.specs.declared.Refusal.{Refusal}
-use Rattle.refusal.specs.declared.Refusal.the-variants.{File, Dimensions, Length, NextState, Row, Cells, Task, Operation, Pending, Idle, Record, Cell, Line, Rings, Chainage, Room}
+use Rattle.refusal.specs.declared.Refusal.the-variants.{File, Dimensions, Length, NextState, Row, Cells, Task, Operation, Pending, Idle, Record, Cell, Line, Rings, Chainage, Room, Unacknowledged, Window}
 use Rattle.cells.specs.Ceiling.{ceilingOf, ceilingSaid}
 use Rattle.cells.specs.declared.ceiling.Ceiling.{Ceiling}
 use Rattle.cells.specs.declared.ceiling.Ceiling.the-variants as ceiling
@@ -27,11 +27,17 @@ use Rattle.stepping.specs.declared.answer.StartAnswer.the-variants as start
 use Rattle.refusal.specs.Written.{writtenSaid}
 use Rattle.refusal.specs.declared.Written.{Written}
 use Rattle.refusal.specs.declared.Written.the-variants as written
+use Rattle.window.specs.declared.WindowAnswer.{WindowAnswer}
+use Rattle.window.specs.declared.WindowAnswer.the-variants as window
+use Rattle.window.specs.declared.LineAnswer.{LineAnswer}
+use Rattle.window.specs.declared.LineAnswer.the-variants as line
+use Rattle.window.specs.Serve.{windowSaid}
+use Rattle.window.specs.Line.{lineSaid}
 use Rattle.ring_desk.specs.Owner.{ownerOf, ownerSaid}
 use Rattle.ring_desk.proofs.Answers.{owner-answered}
 use Rattle.ring_desk.specs.declared.OwnerAnswer.{OwnerAnswer}
 use Rattle.ring_desk.specs.declared.OwnerAnswer.the-variants as owner
-use Rattle.drive_object.specs.Word.{wordOf, endedFlags, refusalIn, flagsIn, endedIn, movedIn, lowIn, highIn, valueAt, refusedWord, checkWord, startWord, answerWord, ceilingWord, ownerWord, writtenWord}
+use Rattle.drive_object.specs.Word.{wordOf, endedFlags, refusalIn, flagsIn, endedIn, movedIn, lowIn, highIn, valueAt, refusedWord, checkWord, startWord, answerWord, ceilingWord, windowWord, lineWord, ownerWord, writtenWord}
 
 -- The four parts of a word, each as wide as its bytes.
 pub parts-read : (c f l h : ℕ) → c < 256 → f < 256 → l < 65536
@@ -61,6 +67,8 @@ number-fits Line = omega arith
 number-fits Rings = omega arith
 number-fits Chainage = omega arith
 number-fits Room = omega arith
+number-fits Unacknowledged = omega arith
+number-fits Window = omega arith
 
 -- A refused call shows the number of its cause, no flag, for it is no operation that has ended, and no value.
 pub refused-read : (c : Refusal) → let w = refusedWord c in (refusalIn w ≡ numberOf c) × (flagsIn w ≡ 0) × (lowIn w ≡ 0) × (highIn w ≡ 0)
@@ -70,6 +78,16 @@ refused-read c = parts-read (numberOf c) 0 0 0 (number-fits c) (omega arith) (om
 pub start-read : (a : StartAnswer) → let w = startWord a in (refusalIn w ≡ startSaid a .number) × (flagsIn w ≡ 0) × (lowIn w ≡ 0) × (highIn w ≡ 0)
 start-read start.Started = (refl, refl, refl, refl)
 start-read (start.Refused c) = refused-read c
+
+-- A window call shows its number and nothing else; a line shows its number, and 1 if it is up.
+pub window-read : (a : WindowAnswer) → let w = windowWord a in (refusalIn w ≡ windowSaid a .number) × (flagsIn w ≡ 0) × (lowIn w ≡ 0) × (highIn w ≡ 0)
+window-read window.Served = (refl, refl, refl, refl)
+window-read (window.Refused c) = refused-read c
+
+pub line-read : (a : LineAnswer) → let w = lineWord a in (refusalIn w ≡ lineSaid a .number) × (flagsIn w ≡ 0) × (lowIn w ≡ valueAt (lineSaid a) 0) × (highIn w ≡ 0)
+line-read line.Up = parts-read 0 0 1 0 (omega arith) (omega arith) (omega arith)
+line-read line.Down = (refl, refl, refl, refl)
+line-read (line.Refused c) = refused-read c
 
 -- A ceiling's word shows its number and the steps, and nothing else.
 pub ceiling-read : (a : Ceiling) → let w = ceilingWord a in

@@ -16,6 +16,10 @@ use Rattle.stepping.specs.declared.answer.StepAnswer.{StepAnswer}
 use Rattle.stepping.specs.declared.answer.StartAnswer.{StartAnswer}
 use Rattle.stepping.specs.declared.answer.BeginAnswer.{BeginAnswer}
 use Rattle.stepping.specs.Call.{startSaid, beginSaid, stepSaid}
+use Rattle.window.specs.declared.WindowAnswer.{WindowAnswer}
+use Rattle.window.specs.declared.LineAnswer.{LineAnswer}
+use Rattle.window.specs.Serve.{windowSaid}
+use Rattle.window.specs.Line.{lineSaid}
 use Rattle.ring_desk.specs.declared.OwnerAnswer.{OwnerAnswer}
 use Rattle.ring_desk.specs.Owner.{ownerSaid}
 
@@ -74,6 +78,14 @@ beginWord a = answerWord (beginSaid a)
 
 abbrev pub stepWord : StepAnswer → ℕ
 stepWord a = answerWord (stepSaid a)
+
+-- A window call has its number alone.
+abbrev pub windowWord : WindowAnswer → ℕ
+windowWord a = wordOf (windowSaid a .number) 0 0 0
+
+-- A line that is up has 1 as the low number.
+abbrev pub lineWord : LineAnswer → ℕ
+lineWord a = wordOf (lineSaid a .number) 0 (valueAt (lineSaid a) 0) 0
 
 -- A ceiling is the high number.
 abbrev pub ceilingWord : Ceiling → ℕ

@@ -1,4 +1,4 @@
-// The calls for kernels in C and Rust, that of the writer and those of the ring desk among them: each answer is one word.
+// The calls for kernels in C and Rust, those of the window, the writer and the ring desk among them: each answer is one word.
 use cells::bit;
 use cells::ceiling;
 use cells::ceiling::Ceiling;
@@ -10,15 +10,19 @@ use stepping::answer::BeginAnswer;
 use stepping::answer::StartAnswer;
 use stepping::answer::StepAnswer;
 use table::Checked;
+use window::LineAnswer;
+use window::WindowAnswer;
 ghost use mathlib.Core.Path.{_≡_};
 ghost use Prim.Native.Nat.{_+_, _*_};
 ghost use Rattle.cells.specs.Ceiling.{ceilingOf};
 ghost use Rattle.table.specs.Check.{checkOf};
 ghost use Rattle.stepping.specs.Call.{startOf, beginTask, beginOf, stepTask, stepOf};
+ghost use Rattle.window.specs.Serve.{windowOf};
+ghost use Rattle.window.specs.Line.{lineOf};
 ghost use Rattle.ring_desk.specs.Owner.{ownerOf};
 ghost use Rattle.ring_desk.specs.Table.{tableOf};
 ghost use Rattle.canonical.specs.Canonical.{canonicalWritten};
-ghost use Rattle.drive_object.specs.Word.{wordOf, endedFlags, refusedWord, checkWord, startWord, beginWord, stepWord, ceilingWord, ownerWord, writtenWord};
+ghost use Rattle.drive_object.specs.Word.{wordOf, endedFlags, refusedWord, checkWord, startWord, beginWord, stepWord, windowWord, lineWord, ceilingWord, ownerWord, writtenWord};
 
 // The word of a refusal's number, of flags, and of two numbers.
 fn word(cause: u8, flags: u8, low: u16, high: u32) -> u64
@@ -92,6 +96,27 @@ fn step_word(answer: StepAnswer) -> u64
             steps,
         } => word(0, ended_flags(moved), response, steps),
         StepAnswer::Refused(cause) => refused_word(cause),
+    }
+}
+
+// The word of what a window call answers.
+fn window_word(answer: WindowAnswer) -> u64
+    ensures { λ r. ⌜ r ≡ windowWord answer ⌝ }
+{
+    match answer {
+        WindowAnswer::Served => word(0, 0, 0, 0),
+        WindowAnswer::Refused(cause) => refused_word(cause),
+    }
+}
+
+// The word of an interrupt line.
+fn line_word(answer: LineAnswer) -> u64
+    ensures { λ r. ⌜ r ≡ lineWord answer ⌝ }
+{
+    match answer {
+        LineAnswer::Up => word(0, 0, 1, 0),
+        LineAnswer::Down => word(0, 0, 0, 0),
+        LineAnswer::Refused(cause) => refused_word(cause),
     }
 }
 
@@ -199,6 +224,28 @@ pub extern "C" fn drive_step_record(
     ensures { λ r. ⌜ (now (cells .exit) ≡ stepTask (now (file .entry)) (now (cells .entry)) tasks task (now (own .entry)) .cells) × (now (own .exit) ≡ stepTask (now (file .entry)) (now (cells .entry)) tasks task (now (own .entry)) .task) × (r ≡ stepWord (stepTask (now (file .entry)) (now (cells .entry)) tasks task (now (own .entry)) .answer)) ⌝ }
 {
     step_word(drive::step_record(file, cells, tasks, task, own))
+}
+
+// Takes the command in a task's window, and leaves there what the console reads.
+#[no_mangle]
+pub extern "C" fn drive_window(
+    file: &[u8],
+    cells: &mut [u64],
+    row: &mut [Task],
+    windows: &mut [u8],
+    task: usize,
+) -> u64
+    ensures { λ r. ⌜ (now (cells .exit) ≡ windowOf (now (file .entry)) (now (cells .entry)) (now (row .entry)) (now (windows .entry)) task .cells) × (now (row .exit) ≡ windowOf (now (file .entry)) (now (cells .entry)) (now (row .entry)) (now (windows .entry)) task .row) × (now (windows .exit) ≡ windowOf (now (file .entry)) (now (cells .entry)) (now (row .entry)) (now (windows .entry)) task .windows) × (r ≡ windowWord (windowOf (now (file .entry)) (now (cells .entry)) (now (row .entry)) (now (windows .entry)) task .answer)) ⌝ }
+{
+    window_word(window::serve_window(file, cells, row, windows, task))
+}
+
+// Whether the interrupt line of a task is up.
+#[no_mangle]
+pub extern "C" fn drive_window_line(windows: &[u8], tasks: usize, task: usize) -> u64
+    ensures { λ r. ⌜ r ≡ lineWord (lineOf (now (windows .entry)) tasks task) ⌝ }
+{
+    line_word(window::line(windows, tasks, task))
 }
 
 // Which ring owns a chainage.

@@ -2,7 +2,7 @@
 use mathlib.Core.List.{List, [], _∷_}
 use Prim.Native.Nat.{ℕ}
 use Rattle.refusal.specs.declared.Refusal.{Refusal}
-use Rattle.refusal.specs.declared.Refusal.the-variants.{File, Dimensions, Length, NextState, Row, Cells, Task, Operation, Pending, Idle, Record, Cell, Line, Rings, Chainage, Room}
+use Rattle.refusal.specs.declared.Refusal.the-variants.{File, Dimensions, Length, NextState, Row, Cells, Task, Operation, Pending, Idle, Record, Cell, Line, Rings, Chainage, Room, Unacknowledged, Window}
 
 pub record TableRow : Type 0 where
   pub cause : Refusal
@@ -45,4 +45,8 @@ rows =
     ∷ row Chainage 15
     -- Room shorter than what is to be written.
     ∷ row Room 16
+    -- Begin command before done is acknowledged.
+    ∷ row Unacknowledged 17
+    -- Unknown command, or windows not of 8 bytes for each task.
+    ∷ row Window 18
     ∷ []

@@ -36,6 +36,10 @@ pub enum Refusal {
     Chainage,
     // The lent room is shorter than what is to be written there.
     Room,
+    // The window's command is a begin, and done is not acknowledged.
+    Unacknowledged,
+    // The window's command is none that is known, or the windows don't have eight bytes for each task.
+    Window,
 }
 
 // What a call that writes a file or a list into lent room answers.
@@ -66,5 +70,7 @@ pub fn number(cause: Refusal) -> u8
         Refusal::Rings => 14,
         Refusal::Chainage => 15,
         Refusal::Room => 16,
+        Refusal::Unacknowledged => 17,
+        Refusal::Window => 18,
     }
 }

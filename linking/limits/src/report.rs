@@ -6,7 +6,7 @@ use crate::survey::Limits;
 use crate::turns::{Turn, Turns};
 
 /// The exported calls, in the page's order.
-pub const CALLS: [&str; 10] = [
+pub const CALLS: [&str; 12] = [
     "drive_check",
     "drive_canonical",
     "drive_start",
@@ -14,6 +14,8 @@ pub const CALLS: [&str; 10] = [
     "drive_step",
     "drive_begin_record",
     "drive_step_record",
+    "drive_window",
+    "drive_window_line",
     "drive_ceiling",
     "desk_owner",
     "desk_table",

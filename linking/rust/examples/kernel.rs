@@ -1,13 +1,14 @@
-//! A kernel in Rust over the drive object: three tasks take turns, one step to a turn, over the flag object. Task 1 is
-//! stopped for good inside an operation, with its mark in the head; a lock would be held there for ever. The others end
-//! all of their operations all the same.
+//! A kernel in Rust over the drive object: three tasks take turns, one step to a turn, over the flag object. Task 0 is a
+//! console, which writes commands into its window and reads there what came of them. Task 1 is stopped for good inside an
+//! operation, with its mark in the head; a lock would be held there for ever. The others end all of their operations all
+//! the same.
 //!
 //! usage: kernel TABLE_FILE
 
 use std::process::ExitCode;
 
-use drive_object::{begin, ceiling, check, owner, start, step, write_ring_table};
-use drive_object::{Progress, Refusal, Task, KEY, LONGEST_RING_TABLE};
+use drive_object::{begin, ceiling, check, line_is_up, owner, serve_window, start, step, write_ring_table};
+use drive_object::{Progress, Refusal, Task, KEY, LONGEST_RING_TABLE, WINDOW_BYTES};
 
 const TASKS: usize = 3;
 
@@ -23,6 +24,27 @@ const PROGRAMS: [&[usize]; TASKS] = [
     &[READ, CLEAR, READ, CLEAR],
 ];
 
+/// The task that works through its window, and calls nothing.
+const CONSOLE: usize = 0;
+
+/// The bytes of the console's window that it uses.
+const OPERATION: usize = CONSOLE * WINDOW_BYTES;
+const COMMAND: usize = OPERATION + 1;
+const STATUS: usize = OPERATION + 2;
+const RESPONSE: usize = OPERATION + 3;
+const REFUSAL: usize = OPERATION + 4;
+
+/// The commands.
+const BEGIN: u8 = 1;
+const STEP: u8 = 2;
+const ACKNOWLEDGE: u8 = 3;
+
+/// The bits of the status.
+const BUSY: u8 = 1 << 0;
+const DONE: u8 = 1 << 1;
+const REFUSED: u8 = 1 << 2;
+const MOVED: u8 = 1 << 3;
+
 /// The task that is stopped in its last operation, as soon as it has its mark in the head.
 const STOPPED: usize = 1;
 
@@ -31,6 +53,7 @@ struct Kernel {
     file: Vec<u8>,
     cells: [u64; TASKS + 1],
     row: [Task; TASKS],
+    windows: [u8; TASKS * WINDOW_BYTES],
     ceiling: u32,
     ended: [usize; TASKS],
     /// Of a task with an operation pending.
@@ -54,6 +77,7 @@ fn run() -> Result<(), String> {
     let path = std::env::args().nth(1).ok_or("usage: kernel TABLE_FILE")?;
     let file = std::fs::read(&path).map_err(|error| format!("{path}: {error}"))?;
     let mut kernel = Kernel::start(file)?;
+    kernel.step_too_early()?;
     while kernel.turn()? {}
     kernel.close()
 }
@@ -106,6 +130,7 @@ impl Kernel {
             file,
             cells,
             row,
+            windows: [0; TASKS * WINDOW_BYTES],
             ceiling,
             ended: [0; TASKS],
             own_steps: [None; TASKS],
@@ -120,9 +145,13 @@ impl Kernel {
         let mut any = false;
         for (task, program) in PROGRAMS.iter().enumerate() {
             let stands_still = task == STOPPED && self.stopped;
-            if !stands_still && self.ended[task] < program.len() {
-                self.turn_of(task, program)?;
-                any = true;
+            if stands_still || self.ended[task] == program.len() {
+                continue;
+            }
+            any = true;
+            match task {
+                CONSOLE => self.turn_of_console(program)?,
+                _ => self.turn_of(task, program)?,
             }
         }
         Ok(any)
@@ -135,9 +164,7 @@ impl Kernel {
             begin(&self.file, &mut self.row, task, operation).map_err(refused)?;
         }
         let progress = step(&self.file, &mut self.cells, &mut self.row, task).map_err(refused)?;
-        let own_steps = self.own_steps[task].unwrap_or(0) + 1;
-        self.own_steps[task] = Some(own_steps);
-        expect(own_steps <= self.ceiling, "an operation passes the ceiling")?;
+        let own_steps = self.count_step(task)?;
         if let Progress::Ended {
             response,
             moved,
@@ -148,9 +175,8 @@ impl Kernel {
                 steps == own_steps,
                 "the answered count is not the number of steps",
             )?;
-            self.note_end(task, operation, response, moved)?;
-            let moved = if moved { "moved" } else { "not moved" };
-            println!("task {task} operation {operation} answers {response}, {moved}, own steps {steps}");
+            let said = self.note_end(task, operation, response, moved)?;
+            println!("{said}, own steps {steps}");
         }
         let in_last = self.ended[task] + 1 == program.len();
         let marked = self.cells[0] >> task & 1 == 1;
@@ -162,15 +188,86 @@ impl Kernel {
         Ok(())
     }
 
-    /// The flag is raised by a set that answers 0 and lowered by a clear that answers 1.
-    fn note_end(&mut self, task: usize, operation: usize, response: u16, moved: bool) -> Result<(), String> {
+    /// The own steps of the task's operation, this one counted.
+    fn count_step(&mut self, task: usize) -> Result<u32, String> {
+        let own_steps = self.own_steps[task].unwrap_or(0) + 1;
+        self.own_steps[task] = Some(own_steps);
+        expect(own_steps <= self.ceiling, "an operation passes the ceiling")?;
+        Ok(own_steps)
+    }
+
+    /// Notes an ended operation; what is said of it. The flag is raised by a set that answers 0 and lowered by a clear that
+    /// answers 1.
+    fn note_end(
+        &mut self,
+        task: usize,
+        operation: usize,
+        response: u16,
+        moved: bool,
+    ) -> Result<String, String> {
         let right = moved == (next_state(operation, response) != response);
         expect(right, "the answer is wrong about whether the flag moved")?;
         self.own_steps[task] = None;
         self.ended[task] += 1;
         self.raised += u64::from(operation == SET && response == 0);
         self.lowered += u64::from(operation == CLEAR && response == 1);
+        let moved = if moved { "moved" } else { "not moved" };
+        Ok(format!(
+            "task {task} operation {operation} answers {response}, {moved}"
+        ))
+    }
+
+    /// The console asks for a step before it has begun anything, and reads in its window why that is refused.
+    fn step_too_early(&mut self) -> Result<(), String> {
+        let answer = self.command(STEP).map_or_else(Refusal::number, |()| 0);
+        let number = self.windows[REFUSAL];
+        expect(answer == number, "the window has another refusal")?;
+        let said = self.windows[STATUS] & REFUSED != 0;
+        expect(said, "the window does not say that a command was refused")?;
+        println!("task {CONSOLE} step refused with {number}, by its window");
+        self.acknowledge()
+    }
+
+    /// A turn of the console, which sees its window alone. That has no byte for its steps, so it counts them.
+    fn turn_of_console(&mut self, program: &[usize]) -> Result<(), String> {
+        let operation = program[self.ended[CONSOLE]];
+        if self.windows[STATUS] & BUSY == 0 {
+            self.windows[OPERATION] = operation as u8;
+            self.command(BEGIN).map_err(refused)?;
+        }
+        self.command(STEP).map_err(refused)?;
+        let own_steps = self.count_step(CONSOLE)?;
+        if self.windows[STATUS] & DONE != 0 {
+            let moved = self.windows[STATUS] & MOVED != 0;
+            let response = u16::from(self.windows[RESPONSE]);
+            let said = self.note_end(CONSOLE, operation, response, moved)?;
+            println!("{said}, own steps {own_steps}, by its window");
+            self.acknowledge()?;
+        }
         Ok(())
+    }
+
+    /// The console finds the line up, and after its acknowledge down.
+    fn acknowledge(&mut self) -> Result<(), String> {
+        expect(self.line_is_up()?, "the line is down while an interrupt waits")?;
+        self.command(ACKNOWLEDGE).map_err(refused)?;
+        expect(!self.line_is_up()?, "the line is up after the acknowledge")
+    }
+
+    /// The console writes a command, and the kernel makes the window call, with switching closed.
+    fn command(&mut self, number: u8) -> Result<(), Refusal> {
+        self.windows[COMMAND] = number;
+        serve_window(
+            &self.file,
+            &mut self.cells,
+            &mut self.row,
+            &mut self.windows,
+            CONSOLE,
+        )
+    }
+
+    fn line_is_up(&self) -> Result<bool, String> {
+        line_is_up(&self.windows, TASKS, CONSOLE).map_err(refused)
     }
 
     /// How often the stopped set was applied: the flag was raised as often as it was lowered, and once more if it is

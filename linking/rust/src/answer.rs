@@ -63,6 +63,8 @@ refusals! {
     14 Rings "the list is not of 1 to 255 whole rings, or a ring's length is not 1 to 20,000 or its kind not ordinary or key"
     15 Chainage "no ring owns the chainage"
     16 Room "the room is shorter than what is to be written"
+    17 Unacknowledged "the window's command is a begin, and done is not acknowledged"
+    18 Window "the window's command is not 0 to 3, or the windows are not 8 bytes for each task"
 }
 
 impl core::error::Error for Refusal {}
@@ -133,6 +135,12 @@ pub fn low_number(word: u64) -> Result<u16, Refusal> {
     accepted(word).map(|word| (word >> 16) as u16)
 }
 
+/// Bit 0 of byte 2: whether the line of a window is up.
+#[inline]
+pub fn line(word: u64) -> Result<bool, Refusal> {
+    accepted(word).map(|word| word >> 16 & 1 == 1)
+}
+
 /// Bytes 4 to 7: a ceiling, or the length of what was written.
 #[inline]
 pub fn high_number(word: u64) -> Result<u32, Refusal> {
@@ -189,7 +197,11 @@ mod tests {
             assert_eq!(accepted(word), Ok(word));
             assert_eq!(shape(word), Ok(read));
             assert_eq!(low_number(word), Ok(0xabcd));
+            assert_eq!(line(word), Ok(true));
             assert_eq!(high_number(word), Ok(0x1234_5678));
+        }
+        for word in with_reserved(0x1234_5678_abcc_0000) {
+            assert_eq!(line(word), Ok(false));
         }
     }
 
@@ -198,13 +210,14 @@ mod tests {
         for number in 1..=u8::MAX {
             let refusal = Refusal::of_number(number);
             assert_eq!(refusal.number(), number);
-            let known = matches!(number, 1..=12 | 14..=16);
+            let known = matches!(number, 1..=12 | 14..=18);
             assert_eq!(matches!(refusal, Refusal::Unknown(_)), !known);
             for word in with_reserved(u64::from(number)) {
                 assert_eq!(accepted(word), Err(refusal));
                 assert_eq!(shape(word), Err(refusal));
                 assert_eq!(progress(word), Err(refusal));
                 assert_eq!(low_number(word), Err(refusal));
+                assert_eq!(line(word), Err(refusal));
                 assert_eq!(high_number(word), Err(refusal));
             }
         }

@@ -47,6 +47,18 @@ extern "C" {
         task: usize,
         own: *mut Task,
     ) -> u64;
+    fn drive_window(
+        file: *const u8,
+        file_length: usize,
+        cells: *mut u64,
+        cell_count: usize,
+        row: *mut Task,
+        task_count: usize,
+        windows: *mut u8,
+        window_length: usize,
+        task: usize,
+    ) -> u64;
+    fn drive_window_line(windows: *const u8, window_length: usize, task_count: usize, task: usize) -> u64;
     fn drive_ceiling(task_count: usize) -> u64;
     fn desk_owner(rings: *const u32, word_count: usize, chainage: u64) -> u64;
     fn desk_table(rings: *const u32, word_count: usize, room: *mut u8, room_length: usize) -> u64;
@@ -133,6 +145,36 @@ pub fn step_record(file: &[u8], cells: &mut [u64], tasks: usize, task: usize, ow
             own,
         )
     }
+}
+
+#[inline]
+pub fn serve_window(
+    file: &[u8],
+    cells: &mut [u64],
+    row: &mut [Task],
+    windows: &mut [u8],
+    task: usize,
+) -> u64 {
+    // SAFETY: see above.
+    unsafe {
+        drive_window(
+            file.as_ptr(),
+            file.len(),
+            cells.as_mut_ptr(),
+            cells.len(),
+            row.as_mut_ptr(),
+            row.len(),
+            windows.as_mut_ptr(),
+            windows.len(),
+            task,
+        )
+    }
+}
+
+#[inline]
+pub fn line_is_up(windows: &[u8], tasks: usize, task: usize) -> u64 {
+    // SAFETY: see above.
+    unsafe { drive_window_line(windows.as_ptr(), windows.len(), tasks, task) }
 }
 
 #[inline]

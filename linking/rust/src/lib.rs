@@ -1,19 +1,21 @@
 //! The drive object for kernels in Rust: a table of states and operations that up to eight tasks share through 64-bit
-//! cells; the writer of the one file of an object; and the ring desk, which tells what ring owns a chainage and writes the
-//! table of a drive. `docs/LINKING.md` is the page about linking; table files, cells and refusals stand in
-//! `docs/FORMATS.md`, runs and steps in `docs/RUNS.md`.
+//! cells; the windows, eight bytes a task, through which consoles begin and step; the writer of the one file of an object;
+//! and the ring desk, which tells what ring owns a chainage and writes the table of a drive. `docs/LINKING.md` is the page
+//! about linking; table files, cells, windows and refusals stand in `docs/FORMATS.md`, runs and steps in `docs/RUNS.md`.
 //!
 //! The borrows say most of what a caller owes: what is lent is valid for the whole call, does not overlap, and nobody else
 //! writes it meanwhile. What is left to the kernel:
 //!
-//! - Begin and step are called with switching closed: one call ends before the next one starts.
+//! - Begin, step and [`serve_window`] are called with switching closed: one call ends before the next one starts.
 //! - Handlers that run on the caller's stack leave the 128 bytes below the stack pointer alone.
-//! - Within a run (an accepted [`start`] and the begins and steps after it) nothing but the calls writes cells, row or
-//!   table, and every call is lent the same ones. A kernel may instead keep each record with its task: it takes them out
-//!   of the row after start, and makes every call for a task with the task's record and the row's number of records.
+//! - Within a run (an accepted [`start`] and the begins, steps and window calls after it) nothing but the calls writes
+//!   cells, row or table, and every call is lent the same ones. A kernel may instead keep each record with its task: it
+//!   takes them out of the row after start, and makes every call for a task with the task's record and the row's number of
+//!   records. [`serve_window`] takes the record from the row. A console may write its bytes of its window between calls.
 //!
-//! Nothing is asked of task, operation, chainage or any length: a call that can't be served is refused with the first cause
-//! that holds, and then everything lent is left as it was. No call panics, allocates or keeps a reference.
+//! Nothing is asked of task, operation, chainage, any length or the bytes of a window: a call that can't be served is
+//! refused with the first cause that holds, and then everything lent is left as it was, with one exception: a refused
+//! command writes bytes 1, 2, 4 and 5 of its window. No call panics, allocates or keeps a reference.
 #![no_std]
 #![warn(missing_docs)]
 
@@ -45,6 +47,30 @@ pub const KEY: u32 = 1;
 
 /// The longest table file of a drive in bytes, that of 255 rings.
 pub const LONGEST_RING_TABLE: usize = 1_552;
+
+/// The bytes of a window. The windows of all tasks are lent as one: that of task t begins at byte 8 × t. A console writes
+/// bytes 0, 1 and 6 of its own window, and [`serve_window`] bytes 1 to 5.
+///
+/// | byte | name | holds |
+/// |---|---|---|
+/// | 0 | operation | the operation that a begin command begins |
+/// | 1 | command | 1 begin, 2 step, 3 acknowledge, 0 nothing; [`serve_window`] takes a command once, and leaves 0 |
+/// | 2 | status | the four bits below |
+/// | 3 | response | that of the last operation that a step command ended |
+/// | 4 | refusal | the number of the last refused command, 0 before the first |
+/// | 5 | interrupt | bit 0 is 1 while an interrupt waits: from done or refused to the acknowledge |
+/// | 6 | mask | bit 0 is 1 to mask the interrupt, and changes nothing but the line |
+/// | 7 | | nothing; it is never written |
+///
+/// | bit of status | name | is 1 |
+/// |---|---|---|
+/// | 0 | busy | from an accepted begin command to the step command that ends the operation |
+/// | 1 | done | from such a step command to the acknowledge |
+/// | 2 | refused | from a refused command to the acknowledge |
+/// | 3 | moved | if the last operation that was ended so moved the state |
+///
+/// Bits 4 to 7 of status and 1 to 7 of interrupt have no name and stay as they are; those of mask don't count.
+pub const WINDOW_BYTES: usize = 8;
 
 /// The private record of a task, whose number is its place in the row. [`start`] fills it; only the calls write it. The
 /// forms stand in `docs/RECORDS.md`.
@@ -148,6 +174,46 @@ pub fn step_record(
     own: &mut Task,
 ) -> Result<Progress, Refusal> {
     answer::progress(foreign::step_record(file, cells, tasks, task, own))
+}
+
+/// Takes the command that stands in a task's window: it begins the operation in byte 0 for the task, makes one step for it,
+/// or acknowledges. Tests 18 on the windows' length, which is [`WINDOW_BYTES`] for each record of the row, then 7; refused
+/// by one of these no byte changes. Command 0 is accepted, nothing more is tested and nothing is written. Else it tests 18
+/// on the command, then 17 if it is a begin while done is 1; then a begin tests what [`begin`] does, a step what [`step`]
+/// does, in their orders, and an acknowledge nothing.
+///
+/// Writes cells and row as [`begin`] or [`step`] would, and of the windows that of the task alone:
+///
+/// - by every command: command 0;
+/// - a begin: busy 1;
+/// - a step, running: nothing else;
+/// - a step that ended the operation: busy 0, done 1, moved 0 or 1, the low byte of the response, interrupt 1;
+/// - an acknowledge: done 0, refused 0, interrupt 0;
+/// - a refused command: refused 1, its number in byte 4, interrupt 1; no cell and no record.
+///
+/// Its cost is that of the call that it makes.
+///
+/// A console whose window is all 0 at the start of the run, and that writes only bytes 0, 1 and 6 of it, nobody else writing
+/// there or calling for its task, reads in it what [`begin`] and [`step`] in the same places would answer, but for the count
+/// of own steps, 17 and 18. [`start`] does not touch windows.
+#[inline]
+pub fn serve_window(
+    file: &[u8],
+    cells: &mut [u64],
+    row: &mut [Task],
+    windows: &mut [u8],
+    task: usize,
+) -> Result<(), Refusal> {
+    answer::accepted(foreign::serve_window(file, cells, row, windows, task)).map(|_| ())
+}
+
+/// Whether the interrupt line of a task's window is up: bit 0 of byte 5 is 1, and bit 0 of byte 6 is 0. Tests 18 on the
+/// windows' length, which is [`WINDOW_BYTES`] for each of `tasks` tasks, then 7.
+///
+/// Writes nothing.
+#[inline]
+pub fn line_is_up(windows: &[u8], tasks: usize, task: usize) -> Result<bool, Refusal> {
+    answer::line(foreign::line_is_up(windows, tasks, task))
 }
 
 /// The ceiling of own steps of an operation, whatever the other tasks do: 1,000 × n × n × n for n tasks, 1 to 8. Tests 5 on

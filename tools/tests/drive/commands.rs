@@ -2,7 +2,7 @@
 
 use crate::program::drive;
 
-const COMMANDS: [&str; 10] = [
+const COMMANDS: [&str; 11] = [
     "check",
     "show",
     "table",
@@ -10,6 +10,7 @@ const COMMANDS: [&str; 10] = [
     "same",
     "run",
     "picture",
+    "window",
     "ceiling",
     "owner",
     "ring-table",
@@ -43,6 +44,7 @@ fn other_words_are_refused_with_the_right_ones() {
         ("same", "drive same A B"),
         ("run", "drive run TABLE LINES"),
         ("picture", "drive picture TABLE LINES > X.svg"),
+        ("window", "drive window TABLE LINES"),
         ("ceiling", "drive ceiling N, or drive ceiling --chart > X.svg"),
         ("owner", "drive owner RINGS CHAINAGE"),
         ("ring-table", "drive ring-table RINGS > TABLE"),
@@ -88,7 +90,7 @@ fn what_cant_be_written_is_said() {
 
 #[test]
 fn the_standard_input_is_one_file() {
-    for command in ["run", "picture", "same"] {
+    for command in ["run", "picture", "window", "same"] {
         let said = drive(&[command, "-", "-"], b"").failure();
         assert_eq!(said, "drive: the standard input can be only one of the files\n");
     }
@@ -110,6 +112,8 @@ fn a_file_that_cant_be_read_is_named() {
         vec!["same", "../crates/bench/data/table.bin", "no/table"],
         vec!["run", "no/table", "-"],
         vec!["picture", "no/table", "-"],
+        vec!["window", "no/table", "-"],
+        vec!["window", "../crates/bench/data/table.bin", "no/table"],
         vec!["owner", "no/table", "0"],
         vec!["ring-table", "no/table"],
     ] {
@@ -133,6 +137,7 @@ fn a_dash_is_the_standard_input() {
         vec!["canonical", table],
         vec!["run", table, lines],
         vec!["picture", table, lines],
+        vec!["window", table, "examples/console.lines"],
         vec!["ring-table", rings],
     ] {
         let expected = drive(&words, b"").out;

@@ -7,6 +7,9 @@
  * three rings has more bytes than any room. The one file of a table's object is refused with 16 for a table of one byte, and
  * for one of two bytes it has more bytes than any room; for others it is two states that never change, where operation 0
  * responds with the number of the call if the table has 28 bytes or more, and after a byte of text if the table has three.
+ * A window call counts itself in byte 7 and leaves the command. Command 1 is refused with 10, and leaves busy and the number
+ * 17; 2 begins operation 31, a reading one; 3 ends an operation with response 200, moved; any other is refused with 99. A
+ * line is up while it is masked, and that of task 1 is refused with 17; a task without a window gets 18.
  * What drive shows must follow it.
  */
 #include <string.h>
@@ -76,6 +79,43 @@ uint64_t drive_step(const uint8_t *file, size_t file_length, uint64_t *cells, si
     cells[0] = 0x11060300;
     cells[task + 1] = 0x01050200;
     return ended(0, 3, 44);
+}
+
+uint64_t drive_window(const uint8_t *file, size_t file_length, uint64_t *cells, size_t cell_count, drive_task *row,
+                      size_t task_count, uint8_t *windows, size_t window_length, size_t task) {
+    (void)file, (void)file_length, (void)cell_count, (void)window_length;
+    if (task >= task_count) {
+        return DRIVE_WINDOW;
+    }
+    uint8_t *window = windows + DRIVE_WINDOW_BYTES * task;
+    window[7]++;
+    switch (window[1]) {
+    case 1:
+        window[2] = 1;
+        window[4] = DRIVE_UNACKNOWLEDGED;
+        return DRIVE_IDLE;
+    case 2:
+        row[task].operation = 31;
+        row[task].phase = READ_ONLY;
+        return 0;
+    case 3:
+        row[task].phase = 0;
+        cells[0] = 0x900;
+        window[2] = 0xfa;
+        window[3] = 200;
+        return 0;
+    default:
+        return 99;
+    }
+}
+
+uint64_t drive_window_line(const uint8_t *windows, size_t window_length, size_t task_count, size_t task) {
+    (void)window_length;
+    if (task >= task_count) {
+        return DRIVE_WINDOW;
+    }
+    uint64_t mask = windows[DRIVE_WINDOW_BYTES * task + 6] & 1;
+    return task == 1 ? DRIVE_UNACKNOWLEDGED : mask << 16;
 }
 
 uint64_t drive_ceiling(size_t task_count) {

@@ -1,0 +1,15 @@
+pub mod Commands
+pub mod Served
+pub mod Bytes
+pub mod Causes
+pub mod Cases
+pub mod Left
+pub mod Shown
+pub mod Judged
+pub mod Mask
+pub mod Runs
+pub mod Answers
+pub mod Notes
+pub mod Console
+pub mod Readings
+pub mod Theorem
