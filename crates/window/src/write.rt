@@ -43,6 +43,14 @@ fn put(windows: &mut [u8], task: usize, byte: usize, value: u8)
     windows[BYTES * task + byte] = value;
 }
 
+// Takes the command: it is served once.
+fn take(windows: &mut [u8], task: usize)
+    requires { ⌜ 8 * task + 7 < length (now windows) ⌝ }
+    ensures { λ _. ⌜ now (windows .exit) ≡ taken (now (windows .entry)) task ⌝ }
+{
+    put(windows, task, COMMAND, 0);
+}
+
 // A refused command.
 pub(crate) fn write_refused(windows: &mut [u8], task: usize, cause: Refusal)
     requires { ⌜ 8 * task + 7 < length (now windows) ⌝ }
@@ -50,7 +58,7 @@ pub(crate) fn write_refused(windows: &mut [u8], task: usize, cause: Refusal)
 {
     let marked = status::refused_byte(byte_at(windows, task, STATUS));
     let raised = status::interrupt_byte(true, byte_at(windows, task, INTERRUPT));
-    put(windows, task, COMMAND, 0);
+    take(windows, task);
     put(windows, task, STATUS, marked);
     put(windows, task, REFUSAL, refusal::number(cause));
     put(windows, task, INTERRUPT, raised);
@@ -62,7 +70,7 @@ fn write_begun(windows: &mut [u8], task: usize)
     ensures { λ _. ⌜ now (windows .exit) ≡ begunIn (now (windows .entry)) task ⌝ }
 {
     let marked = status::begun_byte(byte_at(windows, task, STATUS));
-    put(windows, task, COMMAND, 0);
+    take(windows, task);
     put(windows, task, STATUS, marked);
 }
 
@@ -72,11 +80,11 @@ fn write_ended(windows: &mut [u8], task: usize, response: u16, moved: bool)
     ensures { λ _. ⌜ now (windows .exit) ≡ endedIn (now (windows .entry)) task response moved ⌝ }
 {
     let marked = status::ended_byte(byte_at(windows, task, STATUS), moved);
-    let raised = status::interrupt_byte(true, byte_at(windows, task, INTERRUPT));
-    put(windows, task, COMMAND, 0);
+    let waiting = status::interrupt_byte(true, byte_at(windows, task, INTERRUPT));
+    take(windows, task);
     put(windows, task, STATUS, marked);
     put(windows, task, RESPONSE, (response % 256) as u8);
-    put(windows, task, INTERRUPT, raised);
+    put(windows, task, INTERRUPT, waiting);
 }
 
 // An acknowledge.
@@ -86,7 +94,7 @@ pub(crate) fn write_acknowledged(windows: &mut [u8], task: usize)
 {
     let marked = status::acknowledged_byte(byte_at(windows, task, STATUS));
     let lowered = status::interrupt_byte(false, byte_at(windows, task, INTERRUPT));
-    put(windows, task, COMMAND, 0);
+    take(windows, task);
     put(windows, task, STATUS, marked);
     put(windows, task, INTERRUPT, lowered);
 }
@@ -108,7 +116,7 @@ pub(crate) fn write_step(windows: &mut [u8], task: usize, answer: StepAnswer)
     ensures { λ _. ⌜ now (windows .exit) ≡ stepIn (now (windows .entry)) task answer ⌝ }
 {
     match answer {
-        StepAnswer::Running => put(windows, task, COMMAND, 0),
+        StepAnswer::Running => take(windows, task),
         StepAnswer::Ended {
             response,
             moved,

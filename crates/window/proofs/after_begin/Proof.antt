@@ -1,35 +1,26 @@
+-- Each answer of a begin becomes one of the window.
 use borrow.Author.Needs.{needs}
 use Rattle.window.proofs.after_begin.Statement.{statement}
 use Rattle.window.proofs.after_begin.Tie as tie
-use Rattle.window.proofs.after_begin.Reads as reads
-use Rattle.window.proofs.after_begin.Lts as lts
-use Rattle.window.proofs.write.write_begin.Reads as write-begin-reads
 
--- src/lib.rt:135:5
 write-begin-requires : tie.Need-write-begin-requires
 write-begin-requires c κs = search needs
 
--- src/lib.rt:137:31
 enum-told : tie.Need-enum-told
 enum-told c = search needs
 
--- src/lib.rt:138:30
 enum-known-answer : tie.Need-enum-known-answer
 enum-known-answer c = search needs
 
--- src/lib.rt:131:1
 same-length : tie.Need-same-length
 same-length c = search needs
 
--- src/lib.rt:131:1
 returns : tie.Need-returns
 returns c = search needs
 
--- src/lib.rt:131:1
 same-length-2 : tie.Need-same-length-2
 same-length-2 c = search needs
 
--- src/lib.rt:131:1
 returns-2 : tie.Need-returns-2
 returns-2 c = (c .before .before .before .before .before .write-begin .ensures, simp (c .before .answer .given .1))
 

@@ -1,47 +1,35 @@
+-- Each answer of a step becomes one of the window.
 use borrow.Author.Needs.{needs}
 use Rattle.window.proofs.after_step.Statement.{statement}
 use Rattle.window.proofs.after_step.Tie as tie
-use Rattle.window.proofs.after_step.Reads as reads
-use Rattle.window.proofs.after_step.Lts as lts
-use Rattle.window.proofs.write.write_step.Reads as write-step-reads
 
--- src/lib.rt:147:5
 write-step-requires : tie.Need-write-step-requires
 write-step-requires c κs = search needs
 
--- src/lib.rt:149:32
 enum-told : tie.Need-enum-told
 enum-told c = search needs
 
--- src/lib.rt:154:14
 enum-told-2 : tie.Need-enum-told-2
 enum-told-2 c = search needs
 
--- src/lib.rt:155:29
 enum-known-answer : tie.Need-enum-known-answer
 enum-known-answer c = search needs
 
--- src/lib.rt:143:1
 same-length : tie.Need-same-length
 same-length c = search needs
 
--- src/lib.rt:143:1
 returns : tie.Need-returns
 returns c = search needs
 
--- src/lib.rt:143:1
 same-length-2 : tie.Need-same-length-2
 same-length-2 c = search needs
 
--- src/lib.rt:143:1
 returns-2 : tie.Need-returns-2
 returns-2 c = search needs
 
--- src/lib.rt:143:1
 same-length-3 : tie.Need-same-length-3
 same-length-3 c = search needs
 
--- src/lib.rt:143:1
 returns-3 : tie.Need-returns-3
 returns-3 c = (c .before .before .before .before .before .write-step .ensures, simp (c .before .answer .given .1))
 

@@ -1,35 +1,26 @@
+-- The line at the place that was found.
 use Rattle.window.proofs.Commands.{line-at}
 use mathlib.Core.Path.{sym, ap, _∙_}
 use borrow.Author.Needs.{needs}
 use Rattle.window.proofs.line.Statement.{statement}
 use Rattle.window.proofs.line.Tie as tie
-use Rattle.window.proofs.line.Reads as reads
-use Rattle.window.proofs.line.Lts as lts
-use Rattle.window.proofs.find_window.Reads as find-window-reads
-use Rattle.window.proofs.line_in.Reads as line-in-reads
 
--- src/lib.rt:239:9
 find-window-requires : tie.Need-find-window-requires
 find-window-requires c κs = search needs
 
--- src/lib.rt:241:24
 enum-known-place : tie.Need-enum-known-place
 enum-known-place c = search needs
 
--- src/lib.rt:242:26
 enum-told : tie.Need-enum-told
 enum-told c = search needs
 
--- src/lib.rt:242:26
 line-in-requires : tie.Need-line-in-requires
 line-in-requires c κs = c .before .before .find-window .ensures .1 (c .enum-told .given .1)
 
--- src/lib.rt:236:1
 returns : tie.Need-returns
 returns c = let a = c .before .before .before .before .before .args in
     line-at (a .windows .now) (a .tasks) (a .task) (c .before .before .before .find-window .ensures .0) (c .before .place .given .1)
 
--- src/lib.rt:236:1
 returns-2 : tie.Need-returns-2
 returns-2 c = let a = c .before .before .before .before .before .args in
     c .line-in .ensures ∙ line-at (a .windows .now) (a .tasks) (a .task) (c .before .before .before .find-window .ensures .0) (c .before .enum-told .given .1)

@@ -1,30 +1,23 @@
+-- The mask, then the interrupt.
 use borrow.Author.Tests.{eq-eqb, ne-eqb}
 use Prim.Native.Nat.{_%_}
 use mathlib.Core.Path.{sym, ap, _∙_}
 use borrow.Author.Needs.{needs}
 use Rattle.window.proofs.line_in.Statement.{statement}
 use Rattle.window.proofs.line_in.Tie as tie
-use Rattle.window.proofs.line_in.Reads as reads
-use Rattle.window.proofs.line_in.Lts as lts
-use Rattle.window.proofs.write.byte_at.Reads as byte-at-reads
 
--- src/lib.rt:226:8
 byte-at-requires : tie.Need-byte-at-requires
 byte-at-requires c κs = search needs
 
--- src/lib.rt:227:9
 returns : tie.Need-returns
 returns c = simp (eq-eqb _ 1 (ap (λ k. k % 2) (sym (c .before .byte-at .ensures)) ∙ c .if1 .taken))
 
--- src/lib.rt:229:8
 byte-at-requires-2 : tie.Need-byte-at-requires-2
 byte-at-requires-2 c κs = search needs
 
--- src/lib.rt:230:9
 returns-2 : tie.Need-returns-2
 returns-2 c = simp (ne-eqb _ 1 (λ e. c .before .before .if1 .left (ap (λ k. k % 2) (c .before .before .before .byte-at .ensures) ∙ e)), eq-eqb _ 1 (ap (λ k. k % 2) (sym (c .before .byte-at2 .ensures)) ∙ c .if2 .taken))
 
--- src/lib.rt:222:1
 returns-3 : tie.Need-returns-3
 returns-3 c = simp (ne-eqb _ 1 (λ e. c .before .before .if1 .left (ap (λ k. k % 2) (c .before .before .before .byte-at .ensures) ∙ e)), ne-eqb _ 1 (λ e. c .if2 .left (ap (λ k. k % 2) (c .before .byte-at2 .ensures) ∙ e)))
 

@@ -1,45 +1,34 @@
+-- What is settled at the place that was found.
 use Rattle.window.proofs.Commands.{asked-at}
 use Rattle.window.specs.Work.{settledAnswer, settledWindows}
 use mathlib.Core.Path.{sym, ap, _∙_}
 use borrow.Author.Needs.{needs}
 use Rattle.window.proofs.settle.Statement.{statement}
 use Rattle.window.proofs.settle.Tie as tie
-use Rattle.window.proofs.settle.Reads as reads
-use Rattle.window.proofs.settle.Lts as lts
-use Rattle.window.proofs.find_window.Reads as find-window-reads
-use Rattle.window.proofs.settle_command.Reads as settle-command-reads
 
--- src/lib.rt:133:9
 find-window-requires : tie.Need-find-window-requires
 find-window-requires c κs = search needs
 
--- src/lib.rt:135:24
 enum-known-place : tie.Need-enum-known-place
 enum-known-place c = search needs
 
--- src/lib.rt:136:41
 enum-told : tie.Need-enum-told
 enum-told c = search needs
 
--- src/lib.rt:136:26
 settle-command-requires : tie.Need-settle-command-requires
 settle-command-requires c κs = c .before .before .before .find-window .ensures .1 (c .before .enum-told .given .1)
 
--- src/lib.rt:130:1
 same-length : tie.Need-same-length
 same-length c = search needs
 
--- src/lib.rt:130:1
 returns : tie.Need-returns
 returns c = let a = c .before .before .before .before .before .before .args in
     let asked = asked-at (a .windows .now) (a .tasks) (a .task) (c .before .before .before .find-window .ensures .0) (c .before .place .given .1) in
     (ap (settledWindows (a .windows .now)) asked, ap settledAnswer asked)
 
--- src/lib.rt:130:1
 same-length-2 : tie.Need-same-length-2
 same-length-2 c = search needs
 
--- src/lib.rt:130:1
 returns-2 : tie.Need-returns-2
 returns-2 c = let a = c .before .before .before .before .before .before .before .before .before .args in
     let asked = asked-at (a .windows .now) (a .tasks) (a .task) (c .before .before .before .before .before .before .find-window .ensures .0) (c .before .before .before .before .enum-told .given .1) in

@@ -1,3 +1,4 @@
+-- Each command that makes no call.
 use Prim.Native.Nat.{_<_}
 use Rattle.window.specs.Window.{statusOf, byteAt}
 use Rattle.window.specs.declared.status.Status.{Status}
@@ -8,84 +9,62 @@ use mathlib.Core.Path.{sym, ap, _∙_}
 use borrow.Author.Needs.{needs}
 use Rattle.window.proofs.settle_command.Statement.{statement}
 use Rattle.window.proofs.settle_command.Tie as tie
-use Rattle.window.proofs.settle_command.Reads as reads
-use Rattle.window.proofs.settle_command.Lts as lts
-use Rattle.window.proofs.status.read_status.Reads as read-status-reads
-use Rattle.window.proofs.write.byte_at.Reads as byte-at-reads
-use Rattle.window.proofs.write.write_acknowledged.Reads as write-acknowledged-reads
-use Rattle.window.proofs.write.write_refused.Reads as write-refused-reads
 
--- src/lib.rt:112:9
 byte-at-requires : tie.Need-byte-at-requires
 byte-at-requires c κs = search needs
 
--- src/lib.rt:114:9
 write-acknowledged-requires : tie.Need-write-acknowledged-requires
 write-acknowledged-requires c κs = search needs
 
--- src/lib.rt:115:9
 same-length : tie.Need-same-length
 same-length c = search needs
 
--- src/lib.rt:115:9
 returns : tie.Need-returns
 returns c = let a = c .before .before .before .before .before .before .before .before .args in
     let (left, answer) = settled-acknowledged (a .windows .now) (a .task) (sym (c .before .before .before .before .before .byte-at .ensures) ∙ c .before .before .before .before .if1 .taken) in
     (c .before .before .write-acknowledged .ensures ∙ left, answer)
 
--- src/lib.rt:118:9
 write-refused-requires : tie.Need-write-refused-requires
 write-refused-requires c κs = search needs
 
--- src/lib.rt:119:9
 same-length-2 : tie.Need-same-length-2
 same-length-2 c = search needs
 
--- src/lib.rt:119:9
 returns-2 : tie.Need-returns-2
 returns-2 c = let a = c .before .before .before .before .before .before .before .before .before .args in
     let high : 3 < byteAt (a .windows .now) (a .task) 1 = omega (arith, c .before .before .before .before .before .before .byte-at .ensures, c .before .before .before .before .if2 .taken) in
     let (left, answer) = settled-unknown (a .windows .now) (a .task) high in
     (c .before .before .write-refused .ensures ∙ left, answer)
 
--- src/lib.rt:122:9
 same-length-3 : tie.Need-same-length-3
 same-length-3 c = search needs
 
--- src/lib.rt:122:9
 returns-3 : tie.Need-returns-3
 returns-3 c = let a = c .before .before .before .before .before .before .args in
     let read = c .before .before .before .byte-at .ensures in
     settled-left (a .windows .now) (a .task) (omega (arith, read, c .before .if2 .left)) (λ e. c .before .before .if1 .left (read ∙ e)) (λ e. absurd (c .if3 .taken (read ∙ e)))
 
--- src/lib.rt:124:35
 byte-at-requires-2 : tie.Need-byte-at-requires-2
 byte-at-requires-2 c κs = search needs
 
--- src/lib.rt:124:9
 read-status-requires : tie.Need-read-status-requires
 read-status-requires c κs = search needs
 
--- src/lib.rt:126:9
 write-refused-requires-2 : tie.Need-write-refused-requires-2
 write-refused-requires-2 c κs = search needs
 
--- src/lib.rt:127:9
 same-length-4 : tie.Need-same-length-4
 same-length-4 c = search needs
 
--- src/lib.rt:127:9
 returns-4 : tie.Need-returns-4
 returns-4 c = let a = c .before .before .before .before .before .before .before .before .before .before .before .before .before .before .args in
     let one = sym (c .before .before .before .before .before .before .before .before .before .before .before .byte-at .ensures) ∙ c .before .before .before .before .before .before .before .before .if3 .left in
     let (left, answer) = settled-unacknowledged (a .windows .now) (a .task) one (sym (ap (λ (s : Status). s .done) (c .before .before .before .before .before .read-status .ensures .0) ∙ ap (λ (k : ℕ). statusOf k .done) (c .before .before .before .before .before .before .byte-at2 .ensures)) ∙ c .before .before .before .before .if4 .taken) in
     (c .before .before .write-refused2 .ensures ∙ left, answer)
 
--- src/lib.rt:108:1
 same-length-5 : tie.Need-same-length-5
 same-length-5 c = search needs
 
--- src/lib.rt:108:1
 returns-5 : tie.Need-returns-5
 returns-5 c = let a = c .before .before .before .before .before .before .before .before .before .before .args in
     let read = c .before .before .before .before .before .before .before .byte-at .ensures in

@@ -1,41 +1,30 @@
+-- What is asked for at the place that was found.
 use Rattle.window.proofs.Commands.{asked-at}
 use Rattle.window.specs.Work.{workOf}
 use mathlib.Core.Path.{sym, ap, _∙_}
 use borrow.Author.Needs.{needs}
 use Rattle.window.proofs.work_of_call.Statement.{statement}
 use Rattle.window.proofs.work_of_call.Tie as tie
-use Rattle.window.proofs.work_of_call.Reads as reads
-use Rattle.window.proofs.work_of_call.Lts as lts
-use Rattle.window.proofs.find_window.Reads as find-window-reads
-use Rattle.window.proofs.no_work.Reads as no-work-reads
-use Rattle.window.proofs.work_of_command.Reads as work-of-command-reads
 
--- src/lib.rt:100:9
 find-window-requires : tie.Need-find-window-requires
 find-window-requires c κs = search needs
 
--- src/lib.rt:102:30
 enum-told : tie.Need-enum-told
 enum-told c = search needs
 
--- src/lib.rt:102:30
 no-work-requires : tie.Need-no-work-requires
 no-work-requires c κs = search needs
 
--- src/lib.rt:103:26
 enum-told-2 : tie.Need-enum-told-2
 enum-told-2 c = search needs
 
--- src/lib.rt:103:26
 work-of-command-requires : tie.Need-work-of-command-requires
 work-of-command-requires c κs = c .before .before .find-window .ensures .1 (c .enum-told2 .given .1)
 
--- src/lib.rt:97:1
 returns : tie.Need-returns
 returns c = let a = c .before .before .before .before .before .args in
     c .no-work .ensures ∙ ap workOf (asked-at (a .windows .now) (a .tasks) (a .task) (c .before .before .before .find-window .ensures .0) (c .before .enum-told .given .1))
 
--- src/lib.rt:97:1
 returns-2 : tie.Need-returns-2
 returns-2 c = let a = c .before .before .before .before .before .args in
     c .work-of-command .ensures ∙ ap workOf (asked-at (a .windows .now) (a .tasks) (a .task) (c .before .before .before .find-window .ensures .0) (c .before .enum-told2 .given .1))

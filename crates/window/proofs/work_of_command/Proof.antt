@@ -1,3 +1,4 @@
+-- Each command, and done for a begin.
 use Rattle.window.specs.Window.{statusOf}
 use Rattle.window.specs.declared.status.Status.{Status}
 use Prim.Native.Nat.{ℕ}
@@ -7,58 +8,42 @@ use mathlib.Core.Path.{sym, ap, _∙_}
 use borrow.Author.Needs.{needs}
 use Rattle.window.proofs.work_of_command.Statement.{statement}
 use Rattle.window.proofs.work_of_command.Tie as tie
-use Rattle.window.proofs.work_of_command.Reads as reads
-use Rattle.window.proofs.work_of_command.Lts as lts
-use Rattle.window.proofs.no_work.Reads as no-work-reads
-use Rattle.window.proofs.status.read_status.Reads as read-status-reads
-use Rattle.window.proofs.write.byte_at.Reads as byte-at-reads
 
--- src/lib.rt:62:9
 byte-at-requires : tie.Need-byte-at-requires
 byte-at-requires c κs = search needs
 
--- src/lib.rt:64:9
 returns : tie.Need-returns
 returns c = let a = c .before .before .before .args in
     work-steps (a .windows .now) (a .task) (sym (c .before .byte-at .ensures) ∙ c .if1 .taken)
 
--- src/lib.rt:70:9
 no-work-requires : tie.Need-no-work-requires
 no-work-requires c κs = search needs
 
--- src/lib.rt:70:9
 returns-2 : tie.Need-returns-2
 returns-2 c = let a = c .before .before .before .before .before .args in
     let read = c .before .before .before .byte-at .ensures in
     c .no-work .ensures ∙ work-none (a .windows .now) (a .task) (λ e. c .before .before .if1 .left (read ∙ e)) (λ e. c .before .if2 .taken (read ∙ e))
 
--- src/lib.rt:72:35
 byte-at-requires-2 : tie.Need-byte-at-requires-2
 byte-at-requires-2 c κs = search needs
 
--- src/lib.rt:72:9
 read-status-requires : tie.Need-read-status-requires
 read-status-requires c κs = search needs
 
--- src/lib.rt:74:9
 no-work-requires-2 : tie.Need-no-work-requires-2
 no-work-requires-2 c κs = search needs
 
--- src/lib.rt:74:9
 returns-3 : tie.Need-returns-3
 returns-3 c = let a = c .before .before .before .before .before .before .before .before .args in
     let one = sym (c .before .before .before .before .before .before .byte-at .ensures) ∙ c .before .before .before .before .if2 .left in
     c .no-work2 .ensures ∙ work-unacknowledged (a .windows .now) (a .task) one (sym (ap (λ (s : Status). s .done) (c .before .before .read-status .ensures .0) ∙ ap (λ (k : ℕ). statusOf k .done) (c .before .before .before .byte-at2 .ensures)) ∙ c .before .if3 .taken)
 
--- src/lib.rt:78:20
 byte-at-requires-3 : tie.Need-byte-at-requires-3
 byte-at-requires-3 c κs = search needs
 
--- src/lib.rt:78:20
 cast-t7 : tie.Need-cast-t7
 cast-t7 c = search needs
 
--- src/lib.rt:58:1
 returns-4 : tie.Need-returns-4
 returns-4 c = let a = c .before .before .before .before .before .before .before .before .args in
     let one = sym (c .before .before .before .before .before .before .byte-at .ensures) ∙ c .before .before .before .before .if2 .left in

@@ -1,20 +1,14 @@
+-- The byte of the refused status.
 use borrow.Author.Needs.{needs}
 use Rattle.window.proofs.status.refused_byte.Statement.{statement}
 use Rattle.window.proofs.status.refused_byte.Tie as tie
-use Rattle.window.proofs.status.refused_byte.Reads as reads
-use Rattle.window.proofs.status.refused_byte.Lts as lts
-use Rattle.window.proofs.status.read_status.Reads as read-status-reads
-use Rattle.window.proofs.status.status_byte.Reads as status-byte-reads
 
--- src/status.rt:51:9
 read-status-requires : tie.Need-read-status-requires
 read-status-requires c κs = search needs
 
--- src/status.rt:52:5
 status-byte-requires : tie.Need-status-byte-requires
 status-byte-requires c κs = search needs
 
--- src/status.rt:48:1
 returns : tie.Need-returns
 returns c = cc
 
