@@ -8,7 +8,7 @@ ghost use mathlib.Core.Path.{_≡_};
 ghost use Prim.Native.Nat.{_+_, _*_, _<_};
 ghost use lib.ListN.{length};
 ghost use Rattle.stepping.specs.Call.{beginOf, stepOf};
-ghost use Rattle.window.specs.Window.{byteAt, placeOf};
+ghost use Rattle.window.specs.Window.{byteAt, statusAt, placeOf};
 ghost use Rattle.window.specs.Written.{beginIn, stepIn};
 ghost use Rattle.window.specs.Serve.{commanded, askedOf, windowOf, begunAnswer, steppedAnswer};
 ghost use Rattle.window.specs.Work.{workOf, settledAnswer, settledWindows, calledOf};
@@ -68,6 +68,15 @@ fn no_work() -> Work
     }
 }
 
+// Whether done stands in a task's window, not acknowledged.
+fn done_stands(windows: &[u8], task: usize) -> bool
+    requires { ⌜ 8 * task + 7 < length (now windows) ⌝ }
+    ensures { λ r. ⌜ r ≡ statusAt (now (windows .entry)) task .done ⌝ }
+{
+    let status = status::read_status(write::byte_at(windows, task, write::STATUS));
+    status.done
+}
+
 // The call that the command of a task's window asks for.
 fn work_of_command(windows: &[u8], task: usize) -> Work
     requires { ⌜ 8 * task + 7 < length (now windows) ⌝ }
@@ -83,8 +92,7 @@ fn work_of_command(windows: &[u8], task: usize) -> Work
     if command != 1 {
         return no_work();
     }
-    let old = status::read_status(write::byte_at(windows, task, write::STATUS));
-    if old.done {
+    if done_stands(windows, task) {
         return no_work();
     }
     Work {
@@ -121,8 +129,7 @@ fn settle_command(windows: &mut [u8], task: usize) -> WindowAnswer
     if command != 1 {
         return WindowAnswer::Served;
     }
-    let old = status::read_status(write::byte_at(windows, task, write::STATUS));
-    if old.done {
+    if done_stands(windows, task) {
         write::write_refused(windows, task, Refusal::Unacknowledged);
         return WindowAnswer::Refused(Refusal::Unacknowledged);
     }

@@ -1,11 +1,9 @@
 -- Each command that makes no call.
-use Prim.Native.Nat.{_<_}
-use Rattle.window.specs.Window.{statusOf, byteAt}
-use Rattle.window.specs.declared.status.Status.{Status}
-use Prim.Native.Nat.{ℕ}
-use native.Mathlib.Omega.{arith}
 use Rattle.window.proofs.Commands.{settled-acknowledged, settled-unacknowledged, settled-unknown, settled-left}
-use mathlib.Core.Path.{sym, ap, _∙_}
+use Rattle.window.specs.Window.{byteAt}
+use native.Mathlib.Omega.{arith}
+use Prim.Native.Nat.{_<_}
+use mathlib.Core.Path.{sym, _∙_}
 use borrow.Author.Needs.{needs}
 use Rattle.window.proofs.settle_command.Statement.{statement}
 use Rattle.window.proofs.settle_command.Tie as tie
@@ -44,11 +42,8 @@ returns-3 c = let a = c .before .before .before .before .before .before .args in
     let read = c .before .before .before .byte-at .ensures in
     settled-left (a .windows .now) (a .task) (omega (arith, read, c .before .if2 .left)) (λ e. c .before .before .if1 .left (read ∙ e)) (λ e. absurd (c .if3 .taken (read ∙ e)))
 
-byte-at-requires-2 : tie.Need-byte-at-requires-2
-byte-at-requires-2 c κs = search needs
-
-read-status-requires : tie.Need-read-status-requires
-read-status-requires c κs = search needs
+done-stands-requires : tie.Need-done-stands-requires
+done-stands-requires c κs = search needs
 
 write-refused-requires-2 : tie.Need-write-refused-requires-2
 write-refused-requires-2 c κs = search needs
@@ -57,18 +52,18 @@ same-length-4 : tie.Need-same-length-4
 same-length-4 c = search needs
 
 returns-4 : tie.Need-returns-4
-returns-4 c = let a = c .before .before .before .before .before .before .before .before .before .before .before .before .before .before .args in
-    let one = sym (c .before .before .before .before .before .before .before .before .before .before .before .byte-at .ensures) ∙ c .before .before .before .before .before .before .before .before .if3 .left in
-    let (left, answer) = settled-unacknowledged (a .windows .now) (a .task) one (sym (ap (λ (s : Status). s .done) (c .before .before .before .before .before .read-status .ensures .0) ∙ ap (λ (k : ℕ). statusOf k .done) (c .before .before .before .before .before .before .byte-at2 .ensures)) ∙ c .before .before .before .before .if4 .taken) in
+returns-4 c = let a = c .before .before .before .before .before .before .before .before .before .before .before .before .before .args in
+    let one = sym (c .before .before .before .before .before .before .before .before .before .before .byte-at .ensures) ∙ c .before .before .before .before .before .before .before .if3 .left in
+    let (left, answer) = settled-unacknowledged (a .windows .now) (a .task) one (sym (c .before .before .before .before .before .done-stands .ensures) ∙ c .before .before .before .before .if4 .taken) in
     (c .before .before .write-refused2 .ensures ∙ left, answer)
 
 same-length-5 : tie.Need-same-length-5
 same-length-5 c = search needs
 
 returns-5 : tie.Need-returns-5
-returns-5 c = let a = c .before .before .before .before .before .before .before .before .before .before .args in
-    let read = c .before .before .before .before .before .before .before .byte-at .ensures in
-    settled-left (a .windows .now) (a .task) (omega (arith, read, c .before .before .before .before .before .if2 .left)) (λ e. c .before .before .before .before .before .before .if1 .left (read ∙ e)) (λ _. (sym (ap (λ (s : Status). s .done) (c .before .read-status .ensures .0) ∙ ap (λ (k : ℕ). statusOf k .done) (c .before .before .byte-at2 .ensures)) ∙ c .if4 .left))
+returns-5 c = let a = c .before .before .before .before .before .before .before .before .before .args in
+    let read = c .before .before .before .before .before .before .byte-at .ensures in
+    settled-left (a .windows .now) (a .task) (omega (arith, read, c .before .before .before .before .if2 .left)) (λ e. c .before .before .before .before .before .if1 .left (read ∙ e)) (λ _. sym (c .before .done-stands .ensures) ∙ c .if4 .left)
 
 pub settle-command-spec : {M : Type 1} → statement M
 settle-command-spec =
@@ -83,8 +78,7 @@ settle-command-spec =
     returns-2
     same-length-3
     returns-3
-    byte-at-requires-2
-    read-status-requires
+    done-stands-requires
     write-refused-requires-2
     same-length-4
     returns-4

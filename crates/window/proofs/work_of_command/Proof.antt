@@ -1,9 +1,6 @@
 -- Each command, and done for a begin.
-use Rattle.window.specs.Window.{statusOf}
-use Rattle.window.specs.declared.status.Status.{Status}
-use Prim.Native.Nat.{ℕ}
-use borrow.Author.Tests.{eq-eqb, ne-eqb}
 use Rattle.window.proofs.Commands.{work-steps, work-begins, work-unacknowledged, work-none}
+use Prim.Native.Nat.{ℕ}
 use mathlib.Core.Path.{sym, ap, _∙_}
 use borrow.Author.Needs.{needs}
 use Rattle.window.proofs.work_of_command.Statement.{statement}
@@ -24,30 +21,27 @@ returns-2 c = let a = c .before .before .before .before .before .args in
     let read = c .before .before .before .byte-at .ensures in
     c .no-work .ensures ∙ work-none (a .windows .now) (a .task) (λ e. c .before .before .if1 .left (read ∙ e)) (λ e. c .before .if2 .taken (read ∙ e))
 
-byte-at-requires-2 : tie.Need-byte-at-requires-2
-byte-at-requires-2 c κs = search needs
-
-read-status-requires : tie.Need-read-status-requires
-read-status-requires c κs = search needs
+done-stands-requires : tie.Need-done-stands-requires
+done-stands-requires c κs = search needs
 
 no-work-requires-2 : tie.Need-no-work-requires-2
 no-work-requires-2 c κs = search needs
 
 returns-3 : tie.Need-returns-3
-returns-3 c = let a = c .before .before .before .before .before .before .before .before .args in
-    let one = sym (c .before .before .before .before .before .before .byte-at .ensures) ∙ c .before .before .before .before .if2 .left in
-    c .no-work2 .ensures ∙ work-unacknowledged (a .windows .now) (a .task) one (sym (ap (λ (s : Status). s .done) (c .before .before .read-status .ensures .0) ∙ ap (λ (k : ℕ). statusOf k .done) (c .before .before .before .byte-at2 .ensures)) ∙ c .before .if3 .taken)
+returns-3 c = let a = c .before .before .before .before .before .before .before .args in
+    let one = sym (c .before .before .before .before .before .byte-at .ensures) ∙ c .before .before .before .if2 .left in
+    c .no-work2 .ensures ∙ work-unacknowledged (a .windows .now) (a .task) one (sym (c .before .before .done-stands .ensures) ∙ c .before .if3 .taken)
 
-byte-at-requires-3 : tie.Need-byte-at-requires-3
-byte-at-requires-3 c κs = search needs
+byte-at-requires-2 : tie.Need-byte-at-requires-2
+byte-at-requires-2 c κs = search needs
 
 cast-t7 : tie.Need-cast-t7
 cast-t7 c = search needs
 
 returns-4 : tie.Need-returns-4
-returns-4 c = let a = c .before .before .before .before .before .before .before .before .args in
-    let one = sym (c .before .before .before .before .before .before .byte-at .ensures) ∙ c .before .before .before .before .if2 .left in
-    ap (λ (k : ℕ). record { call = 1; operation = k }) (c .byte-at3 .ensures) ∙ work-begins (a .windows .now) (a .task) one (sym (ap (λ (s : Status). s .done) (c .before .before .read-status .ensures .0) ∙ ap (λ (k : ℕ). statusOf k .done) (c .before .before .before .byte-at2 .ensures)) ∙ c .before .if3 .left)
+returns-4 c = let a = c .before .before .before .before .before .before .before .args in
+    let one = sym (c .before .before .before .before .before .byte-at .ensures) ∙ c .before .before .before .if2 .left in
+    ap (λ (k : ℕ). record { call = 1; operation = k }) (c .byte-at2 .ensures) ∙ work-begins (a .windows .now) (a .task) one (sym (c .before .before .done-stands .ensures) ∙ c .before .if3 .left)
 
 pub work-of-command-spec : {M : Type 1} → statement M
 work-of-command-spec =
@@ -57,10 +51,9 @@ work-of-command-spec =
     returns
     no-work-requires
     returns-2
-    byte-at-requires-2
-    read-status-requires
+    done-stands-requires
     no-work-requires-2
     returns-3
-    byte-at-requires-3
+    byte-at-requires-2
     cast-t7
     returns-4)
