@@ -2,17 +2,17 @@
 use mathlib.Core.Path.{_≡_, refl, sym, ap, _∙_}
 use mathlib.Core.Bool.{Bool, true, false, cond}
 use mathlib.Core.List.{List, [], _∷_}
-use mathlib.Core.Logic.{_≢_}
+use mathlib.Core.Logic.{_↔_, _≢_}
 use Prim.Native.Nat.{ℕ, zero, suc, _+_, _*_, _/_, _%_, _<_, _≤_}
 use native.Mathlib.Omega.{arith}
-use borrow.Author.Tests.{eq-eqb, ne-eqb}
-use lib.Dec.{eqb}
+use borrow.Author.Tests.{eqb-true, eq-eqb, ne-eqb}
 use lib.ListN.{length, getD, set, length-set}
 use lib.Seq.{getD-set-same, getD-set-other}
 use Rattle.refusal.specs.declared.Refusal.{Refusal}
 use Rattle.refusal.specs.Number.{numberOf}
 use Rattle.window.specs.declared.status.Status.{Status}
-use Rattle.window.specs.Window.{byteAt, withByte, on, statusOf, statusByte, interruptByte, statusAt, interruptAt}
+use Rattle.window.specs.Window.{byteAt, withByte, on, statusOf, statusByte, interruptByte, statusAt}
+use Rattle.window.specs.Statement.{BitsNamed}
 use Rattle.window.specs.Written.{refusedStatus, begunStatus, endedStatus, acknowledgedStatus, taken, refusedIn, begunIn, endedIn, acknowledgedIn}
 
 -- ---- A status and its byte
@@ -21,6 +21,20 @@ use Rattle.window.specs.Written.{refusedStatus, begunStatus, endedStatus
 on-bit : (b : Bool) (byte : ℕ) → byte % 2 ≡ cond b 1 0 → on byte ≡ b
 on-bit true byte e = eq-eqb (byte % 2) 1 e
 on-bit false byte e = ne-eqb (byte % 2) 1 (λ z. omega (arith, e, z))
+
+-- The test of a bit, and its number.
+bit-named : (byte : ℕ) → (on byte ≡ true) ↔ (byte % 2 ≡ 1)
+bit-named byte = (eqb-true (byte % 2) 1, eq-eqb (byte % 2) 1)
+
+pub bits-named : (windows : List ℕ) (t : ℕ) → BitsNamed windows t
+bits-named windows t = record {
+  busy = bit-named (byteAt windows t 2);
+  done = bit-named (byteAt windows t 2 / 2);
+  refused = bit-named (byteAt windows t 2 / 4);
+  moved = bit-named (byteAt windows t 2 / 8);
+  interrupt = bit-named (byteAt windows t 5);
+  mask = bit-named (byteAt windows t 6);
+}
 
 -- A bit by its weight, and as 0 or 1.
 weight : (b : Bool) (k : ℕ) → cond b k 0 ≡ k * cond b 1 0
@@ -140,16 +154,16 @@ module _ (windows : List ℕ) (t : ℕ) where
 
   -- Byte k after bytes 1 and 2 are written.
   later : (s k : ℕ) → k ≢ 1 → k ≢ 2 → byteAt (withByte (taken windows t) t 2 s) t k ≡ byteAt windows t k
-  later s k h g = other (taken windows t) t 2 s k g ∙ other windows t 1 0 k h
+  later s k h g = other (taken windows t) t 2 s k g ∙ other windows t 1 _ k h
 
   pub taken-bytes : taken windows t ≡ withBytes windows t takenBytes
   unfolding withBytes
   taken-bytes =
       sym (rw (
-        held (taken windows t) t 2 (byteAt windows t 2) (other windows t 1 0 2 (λ e. omega (arith, e))),
-        held (taken windows t) t 3 (byteAt windows t 3) (other windows t 1 0 3 (λ e. omega (arith, e))),
-        held (taken windows t) t 4 (byteAt windows t 4) (other windows t 1 0 4 (λ e. omega (arith, e))),
-        held (taken windows t) t 5 (byteAt windows t 5) (other windows t 1 0 5 (λ e. omega (arith, e))),
+        held (taken windows t) t 2 (byteAt windows t 2) (other windows t 1 _ 2 (λ e. omega (arith, e))),
+        held (taken windows t) t 3 (byteAt windows t 3) (other windows t 1 _ 3 (λ e. omega (arith, e))),
+        held (taken windows t) t 4 (byteAt windows t 4) (other windows t 1 _ 4 (λ e. omega (arith, e))),
+        held (taken windows t) t 5 (byteAt windows t 5) (other windows t 1 _ 5 (λ e. omega (arith, e))),
       ) refl)
 
   module _ (s : ℕ) where

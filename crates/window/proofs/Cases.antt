@@ -17,9 +17,9 @@ use Rattle.stepping.proofs.Theorem.{begin-unchanged, step-unchanged}
 use Rattle.window.specs.declared.Place.{Place}
 use Rattle.window.specs.declared.WindowAnswer.{WindowAnswer}
 use Rattle.window.specs.declared.WindowAnswer.the-variants as window
-use Rattle.window.specs.Window.{byteAt, statusAt, placeOf}
+use Rattle.window.specs.Window.{byteAt, statusAt}
 use Rattle.window.specs.Written.{taken, refusedIn, begunIn, endedIn, acknowledgedIn, beginIn, stepIn}
-use Rattle.window.specs.Serve.{Asked, commanded, askedIn, askedOf, WindowOutcome, begunAnswer, steppedAnswer, made, windowOf}
+use Rattle.window.specs.Serve.{Asked, askedIn, askedOf, WindowOutcome, begunAnswer, steppedAnswer, made, windowOf}
 use Rattle.window.specs.Statement.{HasWindow}
 use Rattle.window.proofs.Commands as found
 use Rattle.window.proofs.Commands.{Placed, placed, Command, command}

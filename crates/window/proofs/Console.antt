@@ -1,40 +1,35 @@
 -- Theorem C: what the window of a task tells, after all events that leave it to its console.
 use mathlib.Core.Path.{_≡_, refl, sym, ap, subst, _∙_}
-use mathlib.Core.Logic.{_↔_, _≢_, _⊎_, inl, inr}
-use mathlib.Core.Bool.{Bool, true, false, cond}
+use mathlib.Core.Logic.{_≢_, _⊎_, inl, inr}
+use mathlib.Core.Bool.{Bool, true, false}
 use mathlib.Core.List.{List, [], _∷_, _++_, append-nil}
-use Prim.Native.Nat.{ℕ, _+_, _*_, _%_, _<_, _≤_}
+use Prim.Native.Nat.{ℕ, _+_, _*_, _<_, _≤_}
 use native.Mathlib.Omega.{arith}
 use native.Mathlib.Decide.{ℕ-discrete}
 use borrow.Author.Tests.{eq-eqb, ne-eqb}
-use lib.ListN.{length, getD, set, length-set}
+use lib.ListN.{length, length-set}
 use lib.Seq.{getD-set-other}
-use Rattle.laws.proofs.Clash.{never, clash}
 use Rattle.laws.proofs.Lists.{from-the-end}
 use Rattle.refusal.specs.declared.Refusal.{Refusal}
 use Rattle.refusal.specs.declared.Refusal.the-variants as cause
 use Rattle.refusal.specs.Number.{numberOf}
 use Rattle.machine.specs.Outcome.{Outcome, noOutcome}
-use Rattle.machine.specs.Calls.{Call, Begin, Step, Answer, Begun, Running, Ended, Refused, Event}
-use Rattle.machine.specs.History.{Pending, Nothing, Pends, longer, heard, pending}
+use Rattle.machine.specs.Calls.{Call, Begin, Step, Begun, Running, Ended, Refused, Event}
+use Rattle.machine.specs.History.{Nothing, heard, pending}
 use Rattle.records.specs.declared.record.Task.{Task}
-use Rattle.stepping.specs.declared.answer.BeginAnswer.the-variants as begin
-use Rattle.stepping.specs.declared.answer.StepAnswer.the-variants as step
-use Rattle.stepping.specs.Call.{beginSaid, stepSaid, beginOf, stepOf}
-use Rattle.stepping.specs.Runs.{Store, serveOf, runOf, historyOf}
+use Rattle.stepping.specs.Call.{beginSaid, stepSaid}
+use Rattle.stepping.specs.Runs.{Store, serveOf, historyOf}
 use Rattle.stepping.specs.Opening.{Opening, shown}
 use Rattle.stepping.proofs.Theorem.{demands-met, in-form-throughout}
 use Rattle.window.specs.declared.status.Status.{Status}
 use Rattle.window.specs.declared.WindowAnswer.{WindowAnswer}
 use Rattle.window.specs.declared.WindowAnswer.the-variants as window
-use Rattle.window.specs.declared.Place.{Place}
 use Rattle.window.specs.Window.{byteAt, on, statusOf, statusAt, interruptAt}
-use Rattle.window.specs.Serve.{Asked, Settled, Begins, Steps, askedIn, askedOf, WindowOutcome, windowOf}
-use Rattle.window.specs.Events.{WindowEvent, Written, Served, Direct, Lent, happen, after, callBy, callAt, callsOf}
-use Rattle.window.specs.Console.{Blank, taskOf, Leaves, AllLeave, isPending, endedBy, lastEnded, Note, Ending, Acknowledging, Other, Refusing, endingOf, endingBy, noted, noteOf, notesOf, refusedBy, lastRefused}
+use Rattle.window.specs.Serve.{askedOf, WindowOutcome, windowOf}
+use Rattle.window.specs.Events.{WindowEvent, Written, Served, Direct, WindowStore, opened, happen, after, callBy, callAt, callsOf}
+use Rattle.window.specs.Console.{Blank, taskOf, Leaves, AllLeave, isPending, endedBy, lastEnded, Note, Ending, Acknowledging, Other, Refusing, endingOf, noted, noteOf, notesOf, numberBy, lastRefused}
 use Rattle.window.specs.Statement.{HasWindow, Shows, Tells}
-use Rattle.window.proofs.Commands as found
-use Rattle.window.proofs.Commands.{Placed, placed, Command, command}
+use Rattle.window.proofs.Commands.{command}
 use Rattle.window.proofs.Cases.{Case, unfit, past, nothing, unknown, acknowledged, unacknowledged, begun, begin-refused, running, ended, step-refused, cases}
 use Rattle.window.proofs.Left.{inside, others-stay}
 use Rattle.window.proofs.Shown.{shows-taken, shows-begun, shows-refused, shows-ended, shows-acknowledged}
@@ -42,98 +37,30 @@ use Rattle.window.proofs.Judged.{begin-made, step-made}
 use Rattle.window.proofs.Runs.{same-run, calls-grow, after-append}
 use Rattle.window.proofs.Answers.{response-fits}
 use Rattle.window.proofs.Notes.{pending-more, ended-more, refused-more, notes-more, doneBy, markedBy, bitFrom, bit-more, done-since, marked-since}
-
--- ---- Calls of other tasks
-
-heard-other : (t : ℕ) (x : Call) (a : Answer) (p : Pending) → taskOf x ≢ t → heard t x a p ≡ p
-heard-other t (Begin i o) Begun p h = simp (ne-eqb i t h)
-heard-other t (Begin i o) Running p h = refl
-heard-other t (Begin i o) (Ended r k) p h = refl
-heard-other t (Begin i o) (Refused k) p h = refl
-heard-other t (Step i) Begun p h = refl
-heard-other t (Step i) Running p h = simp (ne-eqb i t h)
-heard-other t (Step i) (Ended r k) p h = simp (ne-eqb i t h)
-heard-other t (Step i) (Refused k) p h = refl
-
-ended-other : (t : ℕ) (x : Call) (a : Answer) (r : Outcome) → taskOf x ≢ t → endedBy t x a r ≡ r
-ended-other t (Begin i o) a r h = refl
-ended-other t (Step i) Begun r h = refl
-ended-other t (Step i) Running r h = refl
-ended-other t (Step i) (Ended v k) r h = simp (ne-eqb i t h)
-ended-other t (Step i) (Refused k) r h = refl
-
--- One more step is as pending as before.
-longer-pending : (p : Pending) → isPending (longer p) ≡ isPending p
-longer-pending Nothing = refl
-longer-pending (Pends o s) = refl
-
--- A command that is settled by the windows alone makes no call.
-pub no-call : (windows : List ℕ) (n t : ℕ) → byteAt windows t 1 ≢ 2 → (byteAt windows t 1 ≡ 1 → statusAt windows t .done ≡ true) → callBy t (askedOf windows n t) ≡ []
-unfolding askedOf
-no-call windows n t two one = by (placed windows n t)
-  where
-    ordered : {a : Asked} → Command windows t (byteAt windows t 1) a → callBy t a ≡ []
-    ordered (found.nothing e) = refl
-    ordered (found.begins e d) = clash (one e) d
-    ordered (found.unacknowledged e d) = refl
-    ordered (found.steps e) = absurd (two e)
-    ordered (found.acknowledges e) = refl
-    ordered (found.unknown l) = refl
-
-    by : {p : Place} → Placed windows n t p → callBy t (askedIn windows t p) ≡ []
-    by (found.inside long below) = ordered (command windows t (byteAt windows t 1))
-    by (found.past long above) = refl
-    by (found.unfit h) = refl
-
--- At most one call is made, and it is for the task.
-one-call : (t : ℕ) (a : Asked) → (callBy t a ≡ []) ⊎ ((x : Call) × (callBy t a ≡ x ∷ []) × (taskOf x ≡ t))
-one-call t (Settled answer left) = inl refl
-one-call t (Begins o) = inr (Begin t o, refl, refl)
-one-call t Steps = inr (Step t, refl, refl)
-
--- A served command is noted by its direct call.
-noted-served : (k : ℕ) (es : List Event) → k ≢ 3 → noted k window.Served es ≡ endingBy es
-noted-served k es h = simp (ne-eqb k 3 h)
-
--- Done or refused.
-abbrev either : Bool → Bool → Bool
-either a b = cond a true b
-
-either-true : (a : Bool) → true ≡ either a true
-either-true true = refl
-either-true false = refl
-
-either-read : (a b : Bool) → (either a b ≡ true) ↔ ((a ≡ true) ⊎ (b ≡ true))
-either-read true b = ((λ _. inl refl), λ _. refl)
-either-read false true = ((λ _. inr refl), λ _. refl)
-either-read false false = ((λ e. never cc), by)
-  where
-    by : (false ≡ true) ⊎ (false ≡ true) → false ≡ true
-    by (inl e) = e
-    by (inr e) = e
+use Rattle.window.proofs.Settled.{heard-other, ended-other, longer-pending, no-call, one-call, noted-served, either, either-true, either-read}
 
 module _ {file : List ℕ} {n q : ℕ} {s : Store} (o : Opening file n q s) (windows : List ℕ) (t : ℕ) where
   -- What is lent, the calls and the history, after the events.
-  abbrev pub lent : List WindowEvent → Lent
-  lent es = after file es (record { store = s; windows = windows })
+  abbrev pub lent : List WindowEvent → WindowStore
+  lent es = after file es (opened s windows)
 
   abbrev pub calls : List WindowEvent → List Call
-  calls es = callsOf file es (record { store = s; windows = windows })
+  calls es = callsOf file es (opened s windows)
 
   abbrev pub told : List WindowEvent → List Event
   told es = shown o .history (calls es)
 
   abbrev notes : List WindowEvent → List Note
-  notes es = notesOf file t es (record { store = s; windows = windows })
+  notes es = notesOf file t es (opened s windows)
 
   -- ---- One event more
 
   module _ (es : List WindowEvent) (e : WindowEvent) where
     lent-next : lent (es ++ (e ∷ [])) ≡ happen file e (lent es)
-    lent-next = after-append file es (e ∷ []) (record { store = s; windows = windows })
+    lent-next = after-append file es (e ∷ []) (opened s windows)
 
     calls-next : calls (es ++ (e ∷ [])) ≡ calls es ++ callAt e (lent es)
-    calls-next = calls-grow file es (e ∷ []) (record { store = s; windows = windows }) ∙ ap (λ xs. calls es ++ xs) (append-nil (callAt e (lent es)))
+    calls-next = calls-grow file es (e ∷ []) (opened s windows) ∙ ap (λ xs. calls es ++ xs) (append-nil (callAt e (lent es)))
 
     -- Without a direct call nothing more is told.
     told-none : callAt e (lent es) ≡ [] → told (es ++ (e ∷ [])) ≡ told es
@@ -150,10 +77,10 @@ module _ {file : List ℕ} {n q : ℕ} {s : Store} (o : Opening file n q s) (win
 
   -- The store is that of the run, and a direct call's answer is the one that the run shows.
   pub answer-shown : (es : List WindowEvent) (x : Call) → serveOf file x (lent es .store) .answer ≡ shown o .answer (calls es) x
-  answer-shown es x = ap (λ (z : Store). serveOf file x z .answer) (same-run file es (record { store = s; windows = windows }))
+  answer-shown es x = ap (λ (z : Store). serveOf file x z .answer) (same-run file es (opened s windows))
 
   pub row-long : (es : List WindowEvent) → length (lent es .store .row) ≡ n
-  row-long es = ap (λ (z : Store). length (z .row)) (same-run file es (record { store = s; windows = windows })) ∙ in-form-throughout o (calls es) .row-long
+  row-long es = ap (λ (z : Store). length (z .row)) (same-run file es (opened s windows)) ∙ in-form-throughout o (calls es) .row-long
 
   -- ---- What the window tells, as equations
 
@@ -174,11 +101,11 @@ module _ {file : List ℕ} {n q : ℕ} {s : Store} (o : Opening file n q s) (win
     -- By what is noted, pending and ended after the event, and what the window shows.
     next : (note : Note) → noteOf file t e (lent es) ≡ note → (v : Outcome) → lastEnded t noOutcome (told (es ++ (e ∷ []))) ≡ v → length (happen file e (lent es) .windows) ≡ 8 * n
         → Shows (happen file e (lent es) .windows) t (isPending (pending (told (es ++ (e ∷ []))) t)) (doneBy note (statusAt (lent es .windows) t .done)) (markedBy note (statusAt (lent es .windows) t .refused)) (v .moved)
-        (either (doneBy note (statusAt (lent es .windows) t .done)) (markedBy note (statusAt (lent es .windows) t .refused))) (v .response) (refusedBy note (byteAt (lent es .windows) t 4))
+        (either (doneBy note (statusAt (lent es .windows) t .done)) (markedBy note (statusAt (lent es .windows) t .refused))) (v .response) (numberBy note (byteAt (lent es .windows) t 4))
         → Holds (es ++ (e ∷ []))
     next note en v ev long shows =
-        let left = ap (λ (l : Lent). l .windows) (lent-next es e) in
-        let more = notes-more file t es e (record { store = s; windows = windows }) ∙ ap (λ x. notes es ++ (x ∷ [])) en in
+        let left = ap (λ (l : WindowStore). l .windows) (lent-next es e) in
+        let more = notes-more file t es e (opened s windows) ∙ ap (λ x. notes es ++ (x ∷ [])) en in
         let status = ap (λ (z : List ℕ). statusAt z t) left in
         let done-is = ap (λ (z : Status). z .done) status ∙ shows .done-bit in
         let refused-is = ap (λ (z : Status). z .refused) status ∙ shows .refused-bit in
@@ -190,7 +117,7 @@ module _ {file : List ℕ} {n q : ℕ} {s : Store} (o : Opening file n q s) (win
           done = done-is ∙ ap (doneBy note) (old .done) ∙ sym (bit-more doneBy false (notes es) note) ∙ ap (bitFrom doneBy false) (sym more);
           refused = refused-is ∙ ap (markedBy note) (old .refused) ∙ sym (bit-more markedBy false (notes es) note) ∙ ap (bitFrom markedBy false) (sym more);
           interrupt = ap (λ z. interruptAt z t) left ∙ shows .interrupt-bit ∙ ap (λ b. either b (markedBy note (statusAt (lent es .windows) t .refused))) (sym done-is) ∙ ap (either (statusAt (lent (es ++ (e ∷ [])) .windows) t .done)) (sym refused-is);
-          refusal = ap (λ z. byteAt z t 4) left ∙ shows .refusal-byte ∙ ap (refusedBy note) (old .refusal) ∙ sym (refused-more 0 (notes es) note) ∙ ap (lastRefused 0) (sym more);
+          refusal = ap (λ z. byteAt z t 4) left ∙ shows .refusal-byte ∙ ap (numberBy note) (old .refusal) ∙ sym (refused-more 0 (notes es) note) ∙ ap (lastRefused 0) (sym more);
         }
 
     -- An event that is noted as none, leaves bytes 2 to 5, and tells nothing of the task.

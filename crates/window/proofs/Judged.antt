@@ -9,20 +9,18 @@ use lib.ListN.{length}
 use Rattle.laws.proofs.Clash.{never, clash}
 use Rattle.refusal.specs.declared.Refusal.{Refusal}
 use Rattle.refusal.specs.declared.Refusal.the-variants as cause
-use Rattle.refusal.specs.Number.{numberOf, Said, accepted, refusedBy}
+use Rattle.refusal.specs.Number.{numberOf, Said, refusedBy}
 use Rattle.refusal.proofs.Numbers.{numbers-apart, values-same}
-use Rattle.machine.specs.Calls.{Call, Begin, Step, Refused}
+use Rattle.machine.specs.Calls.{Begin, Step, Refused}
 use Rattle.records.specs.declared.record.Task.{Task}
-use Rattle.stepping.specs.declared.answer.BeginAnswer.{BeginAnswer}
 use Rattle.stepping.specs.declared.answer.BeginAnswer.the-variants as begin
-use Rattle.stepping.specs.declared.answer.StepAnswer.{StepAnswer}
 use Rattle.stepping.specs.declared.answer.StepAnswer.the-variants as step
 use Rattle.stepping.specs.Call.{beginSaid, stepSaid, taskAt, beginOf, stepOf}
 use Rattle.window.specs.declared.Place.{Place}
 use Rattle.window.specs.declared.LineAnswer.the-variants as line
 use Rattle.window.specs.Window.{byteAt, statusAt, interruptAt, maskAt}
 use Rattle.window.specs.Serve.{windowSaid, Asked, askedIn, askedOf, WindowOutcome}
-use Rattle.window.specs.Line.{lineIn, lineOf, lineSaid}
+use Rattle.window.specs.Line.{lineIn, lineOf}
 use Rattle.window.specs.Events.{callBy}
 use Rattle.window.specs.Statement.{HasWindow, BeginsBy, StepsBy, LineSays, LineJudged, Judged}
 use Rattle.window.proofs.Commands as found

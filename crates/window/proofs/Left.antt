@@ -3,27 +3,19 @@ use mathlib.Core.Path.{_≡_, refl, sym, ap, subst, _∙_}
 use mathlib.Core.Logic.{_≢_}
 use mathlib.Core.Bool.{Bool, true, false}
 use mathlib.Core.List.{List}
-use Prim.Native.Nat.{ℕ, _+_, _*_, _/_, _%_, _<_, _≤_}
+use Prim.Native.Nat.{ℕ, _+_, _*_, _/_, _<_, _≤_}
 use native.Mathlib.Omega.{arith}
 use native.Mathlib.Decide.{ℕ-discrete}
-use lib.ListN.{length, getD, set, length-set}
-use lib.Seq.{getD-set-other, set-comm}
+use lib.ListN.{length, getD}
 use Rattle.refusal.specs.declared.Refusal.{Refusal}
 use Rattle.refusal.specs.declared.Refusal.the-variants as cause
-use Rattle.refusal.specs.Number.{numberOf}
 use Rattle.records.specs.declared.record.Task.{Task}
 use Rattle.window.specs.declared.status.Status.{Status}
-use Rattle.window.specs.declared.WindowAnswer.{WindowAnswer}
 use Rattle.window.specs.declared.WindowAnswer.the-variants as window
-use Rattle.window.specs.Window.{byteAt, withByte, on, statusOf, statusByte, interruptByte, statusAt, interruptAt}
+use Rattle.window.specs.Window.{byteAt, statusByte, statusAt}
 use Rattle.window.specs.Written.{refusedStatus, begunStatus, endedStatus, acknowledgedStatus, taken, refusedIn, begunIn, endedIn, acknowledgedIn}
-use Rattle.window.specs.Serve.{WindowOutcome, windowOf}
+use Rattle.window.specs.Serve.{WindowOutcome}
 use Rattle.window.specs.Statement.{HasWindow, OthersStay, UnnamedStay, TakenOnce}
-use Rattle.stepping.specs.declared.answer.BeginAnswer.the-variants as begin
-use Rattle.stepping.specs.declared.answer.StepAnswer.{StepAnswer}
-use Rattle.stepping.specs.declared.answer.StepAnswer.the-variants as step
-use Rattle.stepping.specs.Call.{stepOf}
-use Rattle.laws.proofs.Clash.{never, clash}
 use Rattle.window.proofs.Bytes.{status-read, interrupt-read, Bytes, bytesAt, withBytes, bytes-long, bytes-rest, bytes-read, takenBytes, begunBytes, refusedBytes, endedBytes, acknowledgedBytes, taken-bytes, begun-bytes, refused-bytes, acknowledged-bytes, ended-bytes}
 use Rattle.window.proofs.Cases.{Case, unfit, past, nothing, unknown, acknowledged, unacknowledged, begun, begin-refused, running, ended, step-refused, cases}
 

@@ -10,6 +10,8 @@ pub mod Mask
 pub mod Runs
 pub mod Answers
 pub mod Notes
+pub mod Settled
 pub mod Console
 pub mod Readings
+pub mod ByRecord
 pub mod Theorem

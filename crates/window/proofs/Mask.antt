@@ -3,10 +3,10 @@ use mathlib.Core.Path.{_≡_, refl, sym, ap, _∙_}
 use mathlib.Core.Logic.{_≢_}
 use mathlib.Core.Bool.{Bool, true, false, cond}
 use mathlib.Core.List.{List}
-use Prim.Native.Nat.{ℕ, _+_, _*_, _%_, _<_, _≤_}
+use Prim.Native.Nat.{ℕ, _+_, _*_, _%_, _≤_}
 use native.Mathlib.Omega.{arith}
 use borrow.Author.Tests.{lt-ltb, ne-eqb}
-use lib.ListN.{length, getD, set, length-set}
+use lib.ListN.{length, set, length-set}
 use lib.Seq.{getD-set-other, set-comm}
 use Rattle.refusal.specs.declared.Refusal.{Refusal}
 use Rattle.refusal.specs.declared.Refusal.the-variants as cause
@@ -17,13 +17,12 @@ use Rattle.stepping.specs.declared.answer.BeginAnswer.the-variants as begin
 use Rattle.stepping.specs.declared.answer.StepAnswer.{StepAnswer}
 use Rattle.stepping.specs.declared.answer.StepAnswer.the-variants as step
 use Rattle.stepping.specs.Call.{beginOf, stepOf}
-use Rattle.window.specs.declared.status.Status.{Status}
 use Rattle.window.specs.declared.WindowAnswer.the-variants as window
 use Rattle.window.specs.declared.Place.{Place}
 use Rattle.window.specs.declared.Place.the-variants as place
 use Rattle.window.specs.Window.{byteAt, withByte, statusOf, statusByte, interruptByte, statusAt, placeOf}
 use Rattle.window.specs.Written.{refusedStatus, begunStatus, endedStatus, acknowledgedStatus, taken, refusedIn, begunIn, endedIn, acknowledgedIn, beginIn, stepIn}
-use Rattle.window.specs.Serve.{Asked, Settled, Begins, Steps, refusedCommand, commanded, askedIn, askedOf, WindowOutcome, made, windowOf}
+use Rattle.window.specs.Serve.{Asked, Settled, Begins, Steps, refusedCommand, commanded, askedIn, askedOf, made, windowOf}
 use Rattle.window.specs.Statement.{MaskFree}
 use Rattle.window.proofs.Bytes.{Bytes, bytesAt, withBytes, taken-bytes, begun-bytes, refused-bytes, acknowledged-bytes, ended-bytes}
 use Rattle.window.proofs.Commands.{Command, nothing, begins, unacknowledged, steps, acknowledges, unknown, command}

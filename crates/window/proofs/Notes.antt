@@ -2,7 +2,7 @@
 use mathlib.Core.Path.{_≡_, refl, sym, ap, subst, _∙_}
 use mathlib.Core.Bool.{Bool, true, false}
 use mathlib.Core.List.{List, [], _∷_, _++_}
-use mathlib.Core.Logic.{_↔_, _≢_, _⊎_, inl, inr}
+use mathlib.Core.Logic.{_↔_, _≢_, inl, inr}
 use Prim.Native.Nat.{ℕ, _<_}
 use native.Mathlib.Omega.{arith}
 use lib.ListN.{length}
@@ -13,8 +13,8 @@ use Rattle.laws.proofs.Clash.{never, clash}
 use Rattle.machine.specs.Outcome.{Outcome}
 use Rattle.machine.specs.Calls.{Event}
 use Rattle.machine.specs.History.{Pending, heard, pendingFrom}
-use Rattle.window.specs.Events.{WindowEvent, Lent, happen, after}
-use Rattle.window.specs.Console.{Note, Ending, Acknowledging, Other, Refusing, endedBy, lastEnded, noteOf, notesOf, Since, IsEnding, IsRefusing, refusedBy, lastRefused}
+use Rattle.window.specs.Events.{WindowEvent, WindowStore, happen, after}
+use Rattle.window.specs.Console.{Note, Ending, Acknowledging, Other, Refusing, endedBy, lastEnded, noteOf, notesOf, Since, IsEnding, IsRefusing, numberBy, lastRefused}
 
 -- ---- One more at the end
 
@@ -26,11 +26,11 @@ pub ended-more : (t : ℕ) (r : Outcome) (es : List Event) (e : Event) → lastE
 ended-more t r [] e = refl
 ended-more t r (f ∷ es) e = ended-more t (endedBy t (f .call) (f .answer) r) es e
 
-pub refused-more : (k : ℕ) (notes : List Note) (x : Note) → lastRefused k (notes ++ (x ∷ [])) ≡ refusedBy x (lastRefused k notes)
+pub refused-more : (k : ℕ) (notes : List Note) (x : Note) → lastRefused k (notes ++ (x ∷ [])) ≡ numberBy x (lastRefused k notes)
 refused-more k [] x = refl
-refused-more k (y ∷ notes) x = refused-more (refusedBy y k) notes x
+refused-more k (y ∷ notes) x = refused-more (numberBy y k) notes x
 
-pub notes-more : (file : List ℕ) (t : ℕ) (es : List WindowEvent) (e : WindowEvent) (l : Lent) → notesOf file t (es ++ (e ∷ [])) l ≡ notesOf file t es l ++ (noteOf file t e (after file es l) ∷ [])
+pub notes-more : (file : List ℕ) (t : ℕ) (es : List WindowEvent) (e : WindowEvent) (l : WindowStore) → notesOf file t (es ++ (e ∷ [])) l ≡ notesOf file t es l ++ (noteOf file t e (after file es l) ∷ [])
 notes-more file t [] e l = refl
 notes-more file t (f ∷ es) e l = ap (λ xs. noteOf file t f l ∷ xs) (notes-more file t es e (happen file f l))
 

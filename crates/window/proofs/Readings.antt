@@ -1,30 +1,28 @@
 -- Theorem B: a console reads from its window what the direct call answers.
 use mathlib.Core.Path.{_≡_, refl, sym, ap, subst, _∙_}
-use mathlib.Core.Bool.{Bool, true, false, cond}
+use mathlib.Core.Bool.{Bool, true, false}
 use mathlib.Core.List.{List, [], _∷_}
-use Prim.Native.Nat.{ℕ, _*_, _%_, _<_}
+use Prim.Native.Nat.{ℕ, _*_, _<_}
 use native.Mathlib.Omega.{arith}
 use lib.ListN.{length}
-use Rattle.laws.proofs.Clash.{never, clash}
-use Rattle.refusal.specs.declared.Refusal.{Refusal}
+use Rattle.laws.proofs.Clash.{never}
 use Rattle.refusal.specs.Number.{numberOf}
 use Rattle.machine.specs.Outcome.{Outcome}
 use Rattle.machine.specs.Calls.{Call, Begin, Step, Answer, Begun, Running, Ended, Refused}
-use Rattle.machine.specs.History.{pending}
 use Rattle.stepping.specs.Call.{beginSaid, stepSaid}
 use Rattle.stepping.specs.Runs.{Store}
 use Rattle.stepping.specs.Opening.{Opening, shown}
-use Rattle.window.specs.Window.{byteAt, statusAt, interruptAt}
+use Rattle.window.specs.Window.{byteAt, statusAt}
 use Rattle.window.specs.Written.{taken, refusedIn, begunIn, endedIn}
 use Rattle.window.specs.Serve.{WindowOutcome, windowOf}
-use Rattle.window.specs.Events.{WindowEvent, Served, Lent, callAt}
-use Rattle.window.specs.Console.{isPending, Reading, ReadBegun, ReadRunning, ReadEnded, ReadRefused, readBegin, readStep, readingOf, withoutCount}
-use Rattle.window.specs.Statement.{HasWindow, Shows}
+use Rattle.window.specs.Events.{WindowEvent, Served, WindowStore, callAt}
+use Rattle.window.specs.Console.{ReadBegun, ReadRunning, ReadEnded, ReadRefused, readBegin, readStep, readingOf, withoutCount}
 use Rattle.window.proofs.Cases.{Case, unfit, past, nothing, unknown, acknowledged, unacknowledged, begun, begin-refused, running, ended, step-refused, cases}
 use Rattle.window.proofs.Left.{inside}
 use Rattle.window.proofs.Shown.{shows-taken, shows-begun, shows-refused, shows-ended}
 use Rattle.window.proofs.Answers.{begun-idle, accepted-pending, refused-idle, response-fits}
-use Rattle.window.proofs.Console.{no-call, lent, calls, told, answer-shown, row-long, Holds, begin-call, step-call}
+use Rattle.window.proofs.Settled.{no-call}
+use Rattle.window.proofs.Console.{lent, calls, answer-shown, row-long, Holds, begin-call, step-call}
 
 -- ---- Readings by the busy bit before and after
 
@@ -58,7 +56,7 @@ ended-accepted e f = never cc
 -- ---- At every point
 
 module _ {file : List ℕ} {n q : ℕ} {s : Store} (o : Opening file n q s) (windows : List ℕ) (t : ℕ) (es : List WindowEvent) (below : t < n) (holds : Holds o windows t es) where
-  abbrev l : Lent
+  abbrev l : WindowStore
   l = lent o windows t es
 
   abbrev xs : List Call

@@ -4,9 +4,7 @@ use mathlib.Core.List.{List, [], _∷_, _++_, append-assoc}
 use Prim.Native.Nat.{ℕ}
 use lib.ListN.{length}
 use Rattle.laws.proofs.Clash.{never}
-use Rattle.cells.specs.Image.{image}
 use Rattle.machine.specs.Calls.{Call, Begin, Step}
-use Rattle.machine.specs.History.{Rest}
 use Rattle.stepping.specs.declared.answer.BeginAnswer.{BeginAnswer}
 use Rattle.stepping.specs.declared.answer.BeginAnswer.the-variants as begin
 use Rattle.stepping.specs.declared.answer.StepAnswer.{StepAnswer}
@@ -16,8 +14,8 @@ use Rattle.stepping.specs.Runs.{Store, serveOf, runOf}
 use Rattle.stepping.specs.Opening.{Opening}
 use Rattle.stepping.specs.Statement.{Demands}
 use Rattle.window.specs.Serve.{windowSaid, Asked, Settled, Begins, Steps, askedOf, begunAnswer, steppedAnswer, made, windowOf}
-use Rattle.window.specs.Events.{WindowEvent, Written, Served, Direct, Lent, happen, after, callBy, callAt, callsOf}
-use Rattle.window.specs.Statement.{SameRun, CallsGrow, saidOf, AnswersDirect, AlongWindows}
+use Rattle.window.specs.Events.{WindowEvent, Written, Served, Direct, WindowStore, happen, after, callBy, callAt, callsOf}
+use Rattle.window.specs.Statement.{SameAsDirect, CallsGrow, saidOf, AnswersDirect, AlongWindows}
 
 -- One list of calls after another.
 pub run-append : (file : List ℕ) (xs ys : List Call) (s : Store) → runOf file (xs ++ ys) s ≡ runOf file ys (runOf file xs s)
@@ -25,7 +23,7 @@ run-append file [] ys s = refl
 run-append file (x ∷ xs) ys s = run-append file xs ys (serveOf file x s .store)
 
 -- One event.
-happens : (file : List ℕ) (e : WindowEvent) (l : Lent) → happen file e l .store ≡ runOf file (callAt e l) (l .store)
+happens : (file : List ℕ) (e : WindowEvent) (l : WindowStore) → happen file e l .store ≡ runOf file (callAt e l) (l .store)
 unfolding windowOf
 happens file (Written place byte) l = refl
 happens file (Served t) l = by (askedOf (l .windows) (length (l .store .row)) t)
@@ -37,18 +35,18 @@ happens file (Served t) l = by (askedOf (l .windows) (length (l .store .row)) t)
 happens file (Direct x) l = refl
 
 -- Theorem A.
-pub same-run : (file : List ℕ) (es : List WindowEvent) (l : Lent) → SameRun file es l
+pub same-run : (file : List ℕ) (es : List WindowEvent) (l : WindowStore) → SameAsDirect file es l
 same-run file [] l = refl
 same-run file (e ∷ es) l =
     same-run file es (happen file e l) ∙ ap (runOf file (callsOf file es (happen file e l))) (happens file e l) ∙ sym (run-append file (callAt e l) (callsOf file es (happen file e l)) (l .store))
 
-pub calls-grow : (file : List ℕ) (es fs : List WindowEvent) (l : Lent) → CallsGrow file es fs l
+pub calls-grow : (file : List ℕ) (es fs : List WindowEvent) (l : WindowStore) → CallsGrow file es fs l
 calls-grow file [] fs l = refl
 calls-grow file (e ∷ es) fs l =
     ap (λ xs. callAt e l ++ xs) (calls-grow file es fs (happen file e l)) ∙ sym (append-assoc (callAt e l) (callsOf file es (happen file e l)) (callsOf file fs (after file es (happen file e l))))
 
 -- More events.
-pub after-append : (file : List ℕ) (es fs : List WindowEvent) (l : Lent) → after file (es ++ fs) l ≡ after file fs (after file es l)
+pub after-append : (file : List ℕ) (es fs : List WindowEvent) (l : WindowStore) → after file (es ++ fs) l ≡ after file fs (after file es l)
 after-append file [] fs l = refl
 after-append file (e ∷ es) fs l = after-append file es fs (happen file e l)
 
@@ -62,7 +60,7 @@ stepped-said step.Running = refl
 stepped-said (step.Ended r v k) = refl
 stepped-said (step.Refused c) = refl
 
-pub answers-direct : (file : List ℕ) (l : Lent) → AnswersDirect file l
+pub answers-direct : (file : List ℕ) (l : WindowStore) → AnswersDirect file l
 unfolding windowOf
 answers-direct file l t x e = by (askedOf (l .windows) (length (l .store .row)) t) e
   where
@@ -74,6 +72,7 @@ answers-direct file l t x e = by (askedOf (l .windows) (length (l .store .row)) 
 -- Demands 2 and 3 of runs with windows.
 pub along-windows : {file : List ℕ} {n q : ℕ} {s : Store} (o : Opening file n q s) (d : Demands o) (windows : List ℕ) (es : List WindowEvent) → AlongWindows o d windows es
 along-windows {file} {n} {q} {s} o d windows es =
-    let l : Lent = record { store = s; windows = windows } in
-    let same = ap (λ (z : Store). z .cells) (same-run file es l) in
-    record { cells = same; rest = λ r. same ∙ d .rest (callsOf file es l) r }
+    let l : WindowStore = record { store = s; windows = windows } in
+    let run = same-run file es l in
+    let same = ap (λ (z : Store). z .cells) run in
+    record { answers = λ x. ap (λ (z : Store). serveOf file x z .answer) run; cells = same; rest = λ r. same ∙ d .rest (callsOf file es l) r }

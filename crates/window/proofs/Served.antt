@@ -1,5 +1,5 @@
 -- A window call by its parts: what is settled by the windows alone, and what a begin or a step leaves, make up the whole.
-use mathlib.Core.Path.{_≡_, refl, sym, ap, subst, _∙_}
+use mathlib.Core.Path.{_≡_, refl, sym, subst, _∙_}
 use mathlib.Core.Bool.{Bool, not}
 use mathlib.Core.List.{List}
 use mathlib.Core.Logic.{_≢_}
@@ -12,7 +12,6 @@ use Rattle.records.specs.declared.record.Task.{Task}
 use Rattle.stepping.specs.Call.{beginOf, stepOf}
 use Rattle.window.specs.declared.WindowAnswer.{WindowAnswer}
 use Rattle.window.specs.declared.Place.{Place}
-use Rattle.window.specs.Window.{placeOf}
 use Rattle.window.specs.Written.{beginIn, stepIn}
 use Rattle.window.specs.Serve.{Asked, Settled, Begins, Steps, askedIn, askedOf, WindowOutcome, begunAnswer, steppedAnswer, made, windowOf}
 use Rattle.window.specs.Work.{workOf, settledAnswer, settledWindows, calledOf}

@@ -2,25 +2,23 @@
 use mathlib.Core.Path.{_≡_, refl, sym, ap, subst, _∙_}
 use mathlib.Core.Bool.{Bool, true, false}
 use mathlib.Core.List.{List}
-use mathlib.Core.Logic.{_≢_, _⊎_, inl, inr}
+use mathlib.Core.Logic.{_≢_, inl, inr}
 use Prim.Native.Nat.{ℕ, _+_, _*_, _%_, _<_, _≤_}
 use native.Mathlib.Omega.{arith}
 use lib.ListN.{length}
-use Rattle.laws.proofs.Clash.{never, clash}
+use Rattle.laws.proofs.Clash.{never}
 use Rattle.refusal.specs.declared.Refusal.{Refusal}
 use Rattle.refusal.specs.declared.Refusal.the-variants as cause
 use Rattle.refusal.specs.Number.{numberOf}
 use Rattle.records.specs.declared.record.Task.{Task}
-use Rattle.stepping.specs.declared.answer.BeginAnswer.the-variants as begin
 use Rattle.stepping.specs.declared.answer.StepAnswer.{StepAnswer}
 use Rattle.stepping.specs.declared.answer.StepAnswer.the-variants as step
 use Rattle.stepping.specs.Call.{stepOf}
 use Rattle.window.specs.declared.status.Status.{Status}
-use Rattle.window.specs.declared.WindowAnswer.{WindowAnswer}
 use Rattle.window.specs.declared.WindowAnswer.the-variants as window
 use Rattle.window.specs.Window.{byteAt, on, statusOf, statusAt, interruptAt}
 use Rattle.window.specs.Written.{refusedStatus, begunStatus, endedStatus, acknowledgedStatus, taken, refusedIn, begunIn, endedIn, acknowledgedIn}
-use Rattle.window.specs.Serve.{WindowOutcome, windowOf}
+use Rattle.window.specs.Serve.{WindowOutcome}
 use Rattle.window.specs.Statement.{HasWindow, SettledAlone, Shows, RefusedWindow, RefusedLeaves, ServedWindow, ServedLeaves}
 use Rattle.window.proofs.Bytes.{status-read, interrupt-read, Bytes, bytesAt, withBytes, bytes-read, takenBytes, begunBytes, refusedBytes, endedBytes, acknowledgedBytes, taken-bytes, begun-bytes, refused-bytes, acknowledged-bytes, ended-bytes}
 use Rattle.window.proofs.Cases.{Case, still, unfit, past, nothing, unknown, acknowledged, unacknowledged, begun, begin-refused, running, ended, step-refused, cases}

@@ -5,16 +5,23 @@ use Rattle.records.specs.declared.record.Task.{Task}
 use Rattle.stepping.specs.Runs.{Store}
 use Rattle.stepping.specs.Opening.{Opening}
 use Rattle.stepping.specs.Statement.{Demands}
-use Rattle.window.specs.Events.{WindowEvent, Lent}
+use Rattle.window.specs.Events.{WindowEvent, WindowStore}
 use Rattle.window.specs.Console.{Blank}
-use Rattle.window.specs.Statement.{BeginsBy, StepsBy, LineJudged, Judged, SettledAlone, OthersStay, UnnamedStay, TakenOnce, MaskFree, RefusedLeaves, ServedLeaves, SameRun, CallsGrow, AnswersDirect, AlongWindows, ReadsDirect, AlwaysTells}
+use Rattle.window.specs.Statement.{BitsNamed, BeginsBy, StepsBy, LineJudged, Judged, SettledAlone, OthersStay, UnnamedStay, TakenOnce, RecordAlone, MaskFree, RefusedLeaves, ServedLeaves, SameAsDirect, CallsGrow, AnswersDirect, ServedOnce, AlongWindows, ReadsDirect, AlwaysTells}
+use Rattle.window.proofs.Bytes as bytes
 use Rattle.window.proofs.Judged as judging
 use Rattle.window.proofs.Left as writing
 use Rattle.window.proofs.Shown as showing
 use Rattle.window.proofs.Mask as mask
+use Rattle.window.proofs.ByRecord as by-record
 use Rattle.window.proofs.Runs as runs
 use Rattle.window.proofs.Console.{holds, tells}
 use Rattle.window.proofs.Readings as readings
+
+-- ---- The bits by their numbers
+
+pub bits-known : (windows : List ℕ) (t : ℕ) → BitsNamed windows t
+bits-known = bytes.bits-named
 
 -- ---- The tests, the call that is made and the answer
 
@@ -45,6 +52,9 @@ module _ (file cells : List ℕ) (row : List Task) (windows : List ℕ) (t : ℕ
   pub taken-once : TakenOnce file cells row windows t
   taken-once = writing.taken-once file cells row windows t
 
+  pub record-alone : RecordAlone file cells row windows t
+  record-alone = by-record.record-alone file cells row windows t
+
   pub mask-free : MaskFree file cells row windows t
   mask-free = mask.mask-free file cells row windows t
 
@@ -56,14 +66,17 @@ module _ (file cells : List ℕ) (row : List Task) (windows : List ℕ) (t : ℕ
 
 -- ---- Theorem A
 
-pub runs-with-windows : (file : List ℕ) (es : List WindowEvent) (l : Lent) → SameRun file es l
+pub runs-with-windows : (file : List ℕ) (es : List WindowEvent) (l : WindowStore) → SameAsDirect file es l
 runs-with-windows = runs.same-run
 
-pub calls-grow : (file : List ℕ) (es fs : List WindowEvent) (l : Lent) → CallsGrow file es fs l
+pub calls-grow : (file : List ℕ) (es fs : List WindowEvent) (l : WindowStore) → CallsGrow file es fs l
 calls-grow = runs.calls-grow
 
-pub answers-direct : (file : List ℕ) (l : Lent) → AnswersDirect file l
+pub answers-direct : (file : List ℕ) (l : WindowStore) → AnswersDirect file l
 answers-direct = runs.answers-direct
+
+pub served-once : (file : List ℕ) (l : WindowStore) → ServedOnce file l
+served-once = by-record.served-once
 
 -- ---- Over an opening: demands 2 and 3 with windows, and theorems B and C
 

@@ -16,7 +16,7 @@ use Rattle.window.specs.declared.WindowAnswer.{WindowAnswer}
 use Rattle.window.specs.declared.WindowAnswer.the-variants as window
 use Rattle.window.specs.Window.{byteAt, statusAt}
 use Rattle.window.specs.Serve.{windowOf}
-use Rattle.window.specs.Events.{WindowEvent, Written, Served, Direct, Lent, happen, callAt}
+use Rattle.window.specs.Events.{WindowEvent, Written, Served, Direct, WindowStore, happen, callAt}
 
 -- ---- What a console may do
 
@@ -73,7 +73,7 @@ abbrev pub isPending : Pending → Bool
 isPending Nothing = false
 isPending (Pends o s) = true
 
--- The outcome of the last operation of task t that ended, r before.
+-- The outcome of an operation of task t that a call ends, else r.
 abbrev pub endedBy : ℕ → Call → Answer → Outcome → Outcome
 endedBy t (Begin i o) a r = r
 endedBy t (Step i) Begun r = r
@@ -81,6 +81,7 @@ endedBy t (Step i) Running r = r
 endedBy t (Step i) (Ended v k) r = cond (eqb i t) v r
 endedBy t (Step i) (Refused k) r = r
 
+-- The outcome of the last operation of task t that ended, r before.
 abbrev pub lastEnded : ℕ → Outcome → List Event → Outcome
 lastEnded t r [] = r
 lastEnded t r (e ∷ es) = lastEnded t (endedBy t (e .call) (e .answer) r) es
@@ -107,13 +108,13 @@ abbrev pub noted : (command : ℕ) → WindowAnswer → List Event → Note
 noted command (window.Refused c) direct = Refusing (numberOf c)
 noted command window.Served direct = cond (eqb command 3) Acknowledging (endingBy direct)
 
-abbrev pub noteOf : List ℕ → ℕ → WindowEvent → Lent → Note
+abbrev pub noteOf : List ℕ → ℕ → WindowEvent → WindowStore → Note
 noteOf file t (Written place byte) l = Other
 noteOf file t (Served i) l =
     cond (eqb i t) (noted (byteAt (l .windows) i 1) (windowOf file (l .store .cells) (l .store .row) (l .windows) i .answer) (historyOf file (callAt (Served i) l) (l .store))) Other
 noteOf file t (Direct x) l = Other
 
-abbrev pub notesOf : List ℕ → ℕ → List WindowEvent → Lent → List Note
+abbrev pub notesOf : List ℕ → ℕ → List WindowEvent → WindowStore → List Note
 notesOf file t [] l = []
 notesOf file t (e ∷ es) l = noteOf file t e l ∷ notesOf file t es (happen file e l)
 
@@ -127,13 +128,14 @@ IsEnding x = x ≡ Ending
 abbrev pub IsRefusing : Note → Type 0
 IsRefusing x = (number : ℕ) × (x ≡ Refusing number)
 
--- The number of the last refused command, k before the first.
-abbrev pub refusedBy : Note → ℕ → ℕ
-refusedBy Ending k = k
-refusedBy Acknowledging k = k
-refusedBy Other k = k
-refusedBy (Refusing number) k = number
+-- The number of a refused command, else k.
+abbrev pub numberBy : Note → ℕ → ℕ
+numberBy Ending k = k
+numberBy Acknowledging k = k
+numberBy Other k = k
+numberBy (Refusing number) k = number
 
+-- The number of the last refused command, k before the first.
 abbrev pub lastRefused : ℕ → List Note → ℕ
 lastRefused k [] = k
-lastRefused k (x ∷ notes) = lastRefused (refusedBy x k) notes
+lastRefused k (x ∷ notes) = lastRefused (numberBy x k) notes

@@ -13,12 +13,16 @@ pub data WindowEvent : Type 0 where
   Direct : (call : Call) → WindowEvent
 
 -- What the events hand on: the cells and the row, and the windows.
-pub record Lent : Type 0 where
+pub record WindowStore : Type 0 where
   pub store : Store
   pub windows : List ℕ
 
+-- Windows beside the cells and the row that a run opens with.
+abbrev pub opened : Store → List ℕ → WindowStore
+opened s windows = record { store = s; windows = windows }
+
 -- What an event leaves.
-abbrev pub happen : List ℕ → WindowEvent → Lent → Lent
+abbrev pub happen : List ℕ → WindowEvent → WindowStore → WindowStore
 happen file (Written place byte) l = record { store = l .store; windows = set (l .windows) place byte }
 happen file (Served t) l =
     let out = windowOf file (l .store .cells) (l .store .row) (l .windows) t in
@@ -26,7 +30,7 @@ happen file (Served t) l =
 happen file (Direct x) l = record { store = serveOf file x (l .store) .store; windows = l .windows }
 
 -- What a list of events leaves.
-abbrev pub after : List ℕ → List WindowEvent → Lent → Lent
+abbrev pub after : List ℕ → List WindowEvent → WindowStore → WindowStore
 after file [] l = l
 after file (e ∷ es) l = after file es (happen file e l)
 
@@ -36,12 +40,12 @@ callBy t (Settled answer windows) = []
 callBy t (Begins operation) = Begin t operation ∷ []
 callBy t Steps = Step t ∷ []
 
-abbrev pub callAt : WindowEvent → Lent → List Call
+abbrev pub callAt : WindowEvent → WindowStore → List Call
 callAt (Written place byte) l = []
 callAt (Served t) l = callBy t (askedOf (l .windows) (length (l .store .row)) t)
 callAt (Direct x) l = x ∷ []
 
 -- The direct calls that a list of events comes to.
-abbrev pub callsOf : List ℕ → List WindowEvent → Lent → List Call
+abbrev pub callsOf : List ℕ → List WindowEvent → WindowStore → List Call
 callsOf file [] l = []
 callsOf file (e ∷ es) l = callAt e l ++ callsOf file es (happen file e l)

@@ -1,7 +1,7 @@
 -- What is proved of the window call, as types over its definition. `proofs/Theorem.antt` has a proof of each.
 use mathlib.Core.Path.{_≡_}
 use mathlib.Core.Logic.{_↔_, _≢_, _⊎_}
-use mathlib.Core.Bool.{Bool, true, false, cond}
+use mathlib.Core.Bool.{Bool, true, false}
 use mathlib.Core.List.{List, [], _∷_, _++_}
 use Prim.Native.Nat.{ℕ, _+_, _*_, _/_, _%_, _<_, _≤_}
 use lib.ListN.{length, getD}
@@ -12,23 +12,29 @@ use Rattle.machine.specs.Outcome.{noOutcome}
 use Rattle.machine.specs.Calls.{Call, Begin, Step, Answer, Begun, Running, Ended, Refused}
 use Rattle.machine.specs.History.{pending, Rest}
 use Rattle.records.specs.declared.record.Task.{Task}
-use Rattle.stepping.specs.declared.answer.BeginAnswer.{BeginAnswer}
-use Rattle.stepping.specs.declared.answer.BeginAnswer.the-variants as begin
-use Rattle.stepping.specs.declared.answer.StepAnswer.{StepAnswer}
 use Rattle.stepping.specs.declared.answer.StepAnswer.the-variants as step
-use Rattle.stepping.specs.Call.{beginOf, stepOf}
+use Rattle.stepping.specs.Call.{taskAt, stepOf}
 use Rattle.stepping.specs.Runs.{Store, serveOf, runOf}
 use Rattle.stepping.specs.Opening.{Opening, objectIn, shown}
 use Rattle.stepping.specs.Statement.{Demands}
-use Rattle.window.specs.declared.status.Status.{Status}
-use Rattle.window.specs.declared.WindowAnswer.{WindowAnswer}
 use Rattle.window.specs.declared.WindowAnswer.the-variants as window
 use Rattle.window.specs.declared.LineAnswer.{LineAnswer}
 use Rattle.window.specs.Window.{byteAt, withByte, statusAt, interruptAt, maskAt}
 use Rattle.window.specs.Serve.{windowSaid, askedOf, WindowOutcome, windowOf}
 use Rattle.window.specs.Line.{lineOf, lineSaid}
-use Rattle.window.specs.Events.{WindowEvent, Served, Lent, happen, after, callBy, callAt, callsOf}
-use Rattle.window.specs.Console.{Blank, AllLeave, readingOf, withoutCount, isPending, lastEnded, notesOf, Since, IsEnding, IsRefusing, lastRefused}
+use Rattle.window.specs.Events.{WindowEvent, Served, WindowStore, opened, happen, after, callBy, callAt, callsOf}
+use Rattle.window.specs.Console.{AllLeave, readingOf, withoutCount, isPending, lastEnded, notesOf, Since, IsEnding, IsRefusing, lastRefused}
+
+-- ---- The bits by their numbers
+
+-- In byte 2 busy weighs 1, done 2, refused 4 and moved 8; bit 0 of byte 5 is the interrupt, and bit 0 of byte 6 the mask.
+pub record BitsNamed (windows : List ℕ) (t : ℕ) : Type 0 where
+  pub busy : (statusAt windows t .busy ≡ true) ↔ (getD windows (8 * t + 2) 0 % 2 ≡ 1)
+  pub done : (statusAt windows t .done ≡ true) ↔ (getD windows (8 * t + 2) 0 / 2 % 2 ≡ 1)
+  pub refused : (statusAt windows t .refused ≡ true) ↔ (getD windows (8 * t + 2) 0 / 4 % 2 ≡ 1)
+  pub moved : (statusAt windows t .moved ≡ true) ↔ (getD windows (8 * t + 2) 0 / 8 % 2 ≡ 1)
+  pub interrupt : (interruptAt windows t ≡ true) ↔ (getD windows (8 * t + 5) 0 % 2 ≡ 1)
+  pub mask : (maskAt windows t ≡ true) ↔ (getD windows (8 * t + 6) 0 % 2 ≡ 1)
 
 -- ---- The tests, the call that is made and the answer, for all arguments
 
@@ -85,6 +91,18 @@ module _ (file cells : List ℕ) (row : List Task) (windows : List ℕ) (t : ℕ
   abbrev pub TakenOnce : Type 0
   TakenOnce = HasWindow windows (length row) t → byteAt (windowOf file cells row windows t .windows) t 1 ≡ 0
 
+  -- No other record is looked at or written: with the same record of task t in a row of the same length everything else is the same.
+  pub record ByRecord (others : List Task) : Type 0 where
+    pub answer : windowOf file cells row windows t .answer ≡ windowOf file cells others windows t .answer
+    pub cells-same : windowOf file cells row windows t .cells ≡ windowOf file cells others windows t .cells
+    pub windows-same : windowOf file cells row windows t .windows ≡ windowOf file cells others windows t .windows
+    pub own : t < length row → taskAt (windowOf file cells row windows t .row) t ≡ taskAt (windowOf file cells others windows t .row) t
+    pub long : length (windowOf file cells row windows t .row) ≡ length row
+    pub rest : (j : ℕ) → j ≢ t → taskAt (windowOf file cells row windows t .row) j ≡ taskAt row j
+
+  abbrev pub RecordAlone : Type 0
+  RecordAlone = (others : List Task) → length row ≡ length others → taskAt row t ≡ taskAt others t → ByRecord others
+
   -- No byte of a mask changes anything else: the call on windows with another mask differs in that byte alone.
   abbrev pub MaskFree : Type 0
   MaskFree =
@@ -131,31 +149,37 @@ module _ (file cells : List ℕ) (row : List Task) (windows : List ℕ) (t : ℕ
 -- ---- Theorem A: runs with windows are runs
 
 -- For all windows, cells and rows: cells and row after any events are those of the direct calls that the events come to.
-abbrev pub SameRun : List ℕ → List WindowEvent → Lent → Type 0
-SameRun file es l = after file es l .store ≡ runOf file (callsOf file es l) (l .store)
+abbrev pub SameAsDirect : List ℕ → List WindowEvent → WindowStore → Type 0
+SameAsDirect file es l = after file es l .store ≡ runOf file (callsOf file es l) (l .store)
 
 -- More events only add calls at the end.
-abbrev pub CallsGrow : List ℕ → (es fs : List WindowEvent) → Lent → Type 0
+abbrev pub CallsGrow : List ℕ → (es fs : List WindowEvent) → WindowStore → Type 0
 CallsGrow file es fs l = callsOf file (es ++ fs) l ≡ callsOf file es l ++ callsOf file fs (after file es l)
 
--- A window call that makes a direct call answers its refusal, or that it is served.
+-- What a window call says of a direct call's answer: its refusal, or that it is served.
 abbrev pub saidOf : Answer → Said
 saidOf Begun = accepted []
 saidOf Running = accepted []
 saidOf (Ended r steps) = accepted []
 saidOf (Refused number) = refusedBy number
 
-abbrev pub AnswersDirect : List ℕ → Lent → Type 0
+-- A window call that makes a direct call says so of its answer.
+abbrev pub AnswersDirect : List ℕ → WindowStore → Type 0
 AnswersDirect file l =
     (t : ℕ) (x : Call) → callAt (Served t) l ≡ x ∷ []
     → windowSaid (windowOf file (l .store .cells) (l .store .row) (l .windows) t .answer) ≡ saidOf (serveOf file x (l .store) .answer)
 
--- So demands 2 and 3 hold of runs with windows, at the calls that the events come to: at every point the cells are those that the run shows,
--- and at a point of rest they are the image of the book's state.
+-- A command is served once: a second window call without a write between makes no direct call.
+abbrev pub ServedOnce : List ℕ → WindowStore → Type 0
+ServedOnce file l = (t : ℕ) → callAt (Served t) (happen file (Served t) l) ≡ []
+
+-- So demands 2 and 3 hold of runs with windows, at the calls that the events come to: at every point the next direct call is answered, and the
+-- cells are, as the run shows, and at a point of rest the cells are the image of the book's state.
 pub record AlongWindows {file : List ℕ} {n q : ℕ} {s : Store} (o : Opening file n q s) (d : Demands o) (windows : List ℕ) (es : List WindowEvent) : Type 0 where
-  pub cells : after file es (record { store = s; windows = windows }) .store .cells ≡ shown o .cells (callsOf file es (record { store = s; windows = windows }))
-  pub rest : Rest (objectIn o) (shown o .history (callsOf file es (record { store = s; windows = windows })))
-      → after file es (record { store = s; windows = windows }) .store .cells ≡ image n (d .book (callsOf file es (record { store = s; windows = windows })) .state)
+  pub answers : (x : Call) → serveOf file x (after file es (opened s windows) .store) .answer ≡ shown o .answer (callsOf file es (opened s windows)) x
+  pub cells : after file es (opened s windows) .store .cells ≡ shown o .cells (callsOf file es (opened s windows))
+  pub rest : Rest (objectIn o) (shown o .history (callsOf file es (opened s windows)))
+      → after file es (opened s windows) .store .cells ≡ image n (d .book (callsOf file es (opened s windows)) .state)
 
 -- ---- Theorems B and C: a console and its window
 
@@ -164,23 +188,23 @@ module _ {file : List ℕ} {n q : ℕ} {s : Store} (o : Opening file n q s) (win
   abbrev pub ReadsDirect : ℕ → Type 0
   ReadsDirect t =
       (es : List WindowEvent) → AllLeave t es → (x : Call)
-      → callAt (Served t) (after file es (record { store = s; windows = windows })) ≡ x ∷ []
-      → readingOf x (after file es (record { store = s; windows = windows }) .windows) (happen file (Served t) (after file es (record { store = s; windows = windows })) .windows)
-      ≡ withoutCount (shown o .answer (callsOf file es (record { store = s; windows = windows })) x)
+      → callAt (Served t) (after file es (opened s windows)) ≡ x ∷ []
+      → readingOf x (after file es (opened s windows) .windows) (happen file (Served t) (after file es (opened s windows)) .windows)
+      ≡ withoutCount (shown o .answer (callsOf file es (opened s windows)) x)
 
   -- C: what the window of task t tells after the events.
   pub record Tells (t : ℕ) (es : List WindowEvent) : Type 0 where
     -- Busy exactly if an operation is pending; byte 3 and bit 3 are those of the last one that ended, 0 before.
-    pub busy : statusAt (after file es (record { store = s; windows = windows }) .windows) t .busy ≡ isPending (pending (shown o .history (callsOf file es (record { store = s; windows = windows }))) t)
-    pub response : byteAt (after file es (record { store = s; windows = windows }) .windows) t 3 ≡ lastEnded t noOutcome (shown o .history (callsOf file es (record { store = s; windows = windows }))) .response
-    pub moved : statusAt (after file es (record { store = s; windows = windows }) .windows) t .moved ≡ lastEnded t noOutcome (shown o .history (callsOf file es (record { store = s; windows = windows }))) .moved
+    pub busy : statusAt (after file es (opened s windows) .windows) t .busy ≡ isPending (pending (shown o .history (callsOf file es (opened s windows))) t)
+    pub response : byteAt (after file es (opened s windows) .windows) t 3 ≡ lastEnded t noOutcome (shown o .history (callsOf file es (opened s windows))) .response
+    pub moved : statusAt (after file es (opened s windows) .windows) t .moved ≡ lastEnded t noOutcome (shown o .history (callsOf file es (opened s windows))) .moved
     -- Done and refused exactly if an operation ended, or a command was refused, since the last acknowledge; the interrupt exactly if one of them.
-    pub done : (statusAt (after file es (record { store = s; windows = windows }) .windows) t .done ≡ true) ↔ Since IsEnding (notesOf file t es (record { store = s; windows = windows }))
-    pub refused : (statusAt (after file es (record { store = s; windows = windows }) .windows) t .refused ≡ true) ↔ Since IsRefusing (notesOf file t es (record { store = s; windows = windows }))
-    pub interrupt : (interruptAt (after file es (record { store = s; windows = windows }) .windows) t ≡ true)
-        ↔ ((statusAt (after file es (record { store = s; windows = windows }) .windows) t .done ≡ true) ⊎ (statusAt (after file es (record { store = s; windows = windows }) .windows) t .refused ≡ true))
+    pub done : (statusAt (after file es (opened s windows) .windows) t .done ≡ true) ↔ Since IsEnding (notesOf file t es (opened s windows))
+    pub refused : (statusAt (after file es (opened s windows) .windows) t .refused ≡ true) ↔ Since IsRefusing (notesOf file t es (opened s windows))
+    pub interrupt : (interruptAt (after file es (opened s windows) .windows) t ≡ true)
+        ↔ ((statusAt (after file es (opened s windows) .windows) t .done ≡ true) ⊎ (statusAt (after file es (opened s windows) .windows) t .refused ≡ true))
     -- Byte 4 is the number of the last refused command, 0 before.
-    pub refusal : byteAt (after file es (record { store = s; windows = windows }) .windows) t 4 ≡ lastRefused 0 (notesOf file t es (record { store = s; windows = windows }))
+    pub refusal : byteAt (after file es (opened s windows) .windows) t 4 ≡ lastRefused 0 (notesOf file t es (opened s windows))
 
   abbrev pub AlwaysTells : ℕ → Type 0
   AlwaysTells t = (es : List WindowEvent) → AllLeave t es → Tells t es
