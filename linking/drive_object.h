@@ -180,7 +180,7 @@ uint64_t drive_step_record(const uint8_t *file, size_t file_length, uint64_t *ce
  * what drive_step does, in their orders, and an acknowledge nothing.
  *
  * Writes cells and row as drive_begin or drive_step would, and of the windows that of the task alone:
- *  - by every command: command 0;
+ *  - by every command: byte 1 becomes 0;
  *  - a begin: busy 1;
  *  - a step, running: nothing else;
  *  - a step that ended the operation: busy 0, done 1, moved 0 or 1, the low byte of the response, interrupt 1;

@@ -45,8 +45,8 @@ rows =
     ∷ row Chainage 15
     -- Room shorter than what is to be written.
     ∷ row Room 16
-    -- Begin command before done is acknowledged.
+    -- The window's command is a begin, and done is not acknowledged.
     ∷ row Unacknowledged 17
-    -- Unknown command, or windows not of 8 bytes for each task.
+    -- The window's command is not 0 to 3, or the windows are not 8 bytes for each task.
     ∷ row Window 18
     ∷ []

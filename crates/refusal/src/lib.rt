@@ -38,7 +38,7 @@ pub enum Refusal {
     Room,
     // The window's command is a begin, and done is not acknowledged.
     Unacknowledged,
-    // The window's command is none that is known, or the windows don't have eight bytes for each task.
+    // The window's command is not 0 to 3, or the windows are not eight bytes for each task.
     Window,
 }
 

@@ -184,7 +184,7 @@ pub fn step_record(
 ///
 /// Writes cells and row as [`begin`] or [`step`] would, and of the windows that of the task alone:
 ///
-/// - by every command: command 0;
+/// - by every command: byte 1 becomes 0;
 /// - a begin: busy 1;
 /// - a step, running: nothing else;
 /// - a step that ended the operation: busy 0, done 1, moved 0 or 1, the low byte of the response, interrupt 1;
