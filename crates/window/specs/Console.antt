@@ -26,6 +26,7 @@ pub record Blank (n t : ℕ) (windows : List ℕ) : Type 0 where
   pub long : length windows ≡ 8 * n
   pub zeros : (k : ℕ) → k < 8 → byteAt windows t k ≡ 0
 
+-- The task that a direct call is for.
 abbrev pub taskOf : Call → ℕ
 taskOf (Begin i o) = i
 taskOf (Step i) = i
@@ -36,12 +37,14 @@ Leaves t (Written place byte) = (k : ℕ) → 2 ≤ k → k < 8 → k ≢ 6 → 
 Leaves t (Served i) = Unit {0}
 Leaves t (Direct x) = taskOf x ≢ t
 
+-- All of them do.
 abbrev pub AllLeave : ℕ → List WindowEvent → Type 0
 AllLeave t [] = Unit {0}
 AllLeave t (e ∷ es) = Leaves t e × AllLeave t es
 
 -- ---- What a console reads of a call: from its window before and after
 
+-- Begun, running, ended with response and moved, or refused with a number.
 pub data Reading : Type 0 where
   ReadBegun ReadRunning : Reading
   ReadEnded : (response : ℕ) (moved : Bool) → Reading
@@ -56,6 +59,7 @@ abbrev pub readStep : ℕ → (before later : List ℕ) → Reading
 readStep t before later =
     cond (statusAt before t .busy) (cond (statusAt later t .busy) ReadRunning (ReadEnded (byteAt later t 3) (statusAt later t .moved))) (ReadRefused (byteAt later t 4))
 
+-- By the call that was made.
 abbrev pub readingOf : Call → (before later : List ℕ) → Reading
 readingOf (Begin t o) = readBegin t
 readingOf (Step t) = readStep t
@@ -69,6 +73,7 @@ withoutCount (Refused number) = ReadRefused number
 
 -- ---- What the window tells, by the history of the direct calls
 
+-- Whether an operation is pending.
 abbrev pub isPending : Pending → Bool
 isPending Nothing = false
 isPending (Pends o s) = true
@@ -93,6 +98,7 @@ pub data Note : Type 0 where
   Ending Acknowledging Other : Note
   Refusing : (number : ℕ) → Note
 
+-- A direct call that ends an operation, by its answer; and the one that a window call made, if it made one.
 abbrev pub endingOf : Answer → Note
 endingOf Begun = Other
 endingOf Running = Other
@@ -108,6 +114,7 @@ abbrev pub noted : (command : ℕ) → WindowAnswer → List Event → Note
 noted command (window.Refused c) direct = Refusing (numberOf c)
 noted command window.Served direct = cond (eqb command 3) Acknowledging (endingBy direct)
 
+-- What an event is to the console of task t, and all events one after another.
 abbrev pub noteOf : List ℕ → ℕ → WindowEvent → WindowStore → Note
 noteOf file t (Written place byte) l = Other
 noteOf file t (Served i) l =
@@ -122,6 +129,7 @@ notesOf file t (e ∷ es) l = noteOf file t e l ∷ notesOf file t es (happen fi
 abbrev pub Since : (Note → Type 0) → List Note → Type 0
 Since P notes = (i : ℕ) × (x : Note) × At notes i x × P x × ((j : ℕ) → i < j → At notes j Acknowledging → ⊥)
 
+-- An operation ended; a command was refused.
 abbrev pub IsEnding : Note → Type 0
 IsEnding x = x ≡ Ending
 

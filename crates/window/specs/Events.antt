@@ -40,6 +40,7 @@ callBy t (Settled answer windows) = []
 callBy t (Begins operation) = Begin t operation ∷ []
 callBy t Steps = Step t ∷ []
 
+-- The direct calls that an event comes to.
 abbrev pub callAt : WindowEvent → WindowStore → List Call
 callAt (Written place byte) l = []
 callAt (Served t) l = callBy t (askedOf (l .windows) (length (l .store .row)) t)

@@ -13,10 +13,12 @@ use Rattle.window.specs.Window.{interruptAt, maskAt, placeOf}
 abbrev pub lineUp : List ℕ → ℕ → Bool
 lineUp windows t = cond (maskAt windows t) false (interruptAt windows t)
 
+-- A task that has no window is refused.
 abbrev pub lineIn : List ℕ → ℕ → Place → LineAnswer
 lineIn windows t (place.Refused c) = line.Refused c
 lineIn windows t place.Inside = cond (lineUp windows t) line.Up line.Down
 
+-- For task t of n.
 unfoldable pub lineOf : List ℕ → (n t : ℕ) → LineAnswer
 lineOf windows n t = lineIn windows t (placeOf windows n t)
 

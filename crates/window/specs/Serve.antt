@@ -50,6 +50,7 @@ abbrev pub askedIn : List ℕ → ℕ → Place → Asked
 askedIn windows t (place.Refused c) = Settled (window.Refused c) windows
 askedIn windows t place.Inside = commanded windows t (byteAt windows t 1)
 
+-- For task t of n.
 unfoldable pub askedOf : List ℕ → (n t : ℕ) → Asked
 askedOf windows n t = askedIn windows t (placeOf windows n t)
 
@@ -60,6 +61,7 @@ pub record WindowOutcome : Type 0 where
   pub windows : List ℕ
   pub answer : WindowAnswer
 
+-- A begin and a step are served, or refused for the cause that they answer.
 abbrev pub begunAnswer : BeginAnswer → WindowAnswer
 begunAnswer begin.Begun = window.Served
 begunAnswer (begin.Refused c) = window.Refused c
@@ -69,6 +71,7 @@ steppedAnswer step.Running = window.Served
 steppedAnswer (step.Ended response moved steps) = window.Served
 steppedAnswer (step.Refused c) = window.Refused c
 
+-- What is asked for is made, and its answer goes into the window.
 abbrev pub made : (file cells : List ℕ) → List Task → List ℕ → ℕ → Asked → WindowOutcome
 made file cells row windows t (Settled answer left) = record { cells = cells; row = row; windows = left; answer = answer }
 made file cells row windows t (Begins operation) =

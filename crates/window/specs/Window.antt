@@ -25,6 +25,7 @@ on byte = eqb (byte % 2) 1
 abbrev pub statusOf : ℕ → Status
 statusOf byte = record { busy = on byte; done = on (byte / 2); refused = on (byte / 4); moved = on (byte / 8); unnamed = byte / 16 }
 
+-- The byte of a status.
 abbrev pub statusByte : Status → ℕ
 statusByte s = cond (s .busy) 1 0 + cond (s .done) 2 0 + cond (s .refused) 4 0 + cond (s .moved) 8 0 + 16 * s .unnamed
 
@@ -36,6 +37,7 @@ interruptByte waits byte = cond waits 1 0 + 2 * (byte / 2)
 abbrev pub statusAt : List ℕ → ℕ → Status
 statusAt windows t = statusOf (byteAt windows t 2)
 
+-- Whether an interrupt waits, and whether it is masked.
 abbrev pub interruptAt : List ℕ → ℕ → Bool
 interruptAt windows t = on (byteAt windows t 5)
 

@@ -14,20 +14,25 @@ use Rattle.window.specs.Window.{byteAt, withByte, statusByte, statusAt, 
 
 -- ---- The status after a command
 
+-- Refused is set.
 abbrev pub refusedStatus : Status → Status
 refusedStatus s = record { busy = s .busy; done = s .done; refused = true; moved = s .moved; unnamed = s .unnamed }
 
+-- Busy is set.
 abbrev pub begunStatus : Status → Status
 begunStatus s = record { busy = true; done = s .done; refused = s .refused; moved = s .moved; unnamed = s .unnamed }
 
+-- Busy is cleared, done set, and moved is the answer's.
 abbrev pub endedStatus : Bool → Status → Status
 endedStatus moved s = record { busy = false; done = true; refused = s .refused; moved = moved; unnamed = s .unnamed }
 
+-- Done and refused are cleared.
 abbrev pub acknowledgedStatus : Status → Status
 acknowledgedStatus s = record { busy = s .busy; done = false; refused = false; moved = s .moved; unnamed = s .unnamed }
 
 -- ---- The windows after a command
 
+-- Byte 1 is written.
 abbrev pub taken : List ℕ → ℕ → List ℕ
 taken windows t = withByte windows t 1 0
 
