@@ -1,41 +1,26 @@
 -- Runs as the bench opens them: what an accepted start leaves, and what the theorem about runs tells of the steps after it.
-use mathlib.Core.Path.{_≡_, refl, sym, ap, _∙_}
+use mathlib.Core.Path.{_≡_, refl, ap, _∙_}
 use mathlib.Core.List.{List, [], _∷_, _++_}
 use Prim.Native.Nat.{ℕ, suc, _≤_, _<_}
 use native.Mathlib.Omega.{arith}
 use borrow.Author.Tests.{eq-eqb}
 use lib.ListN.{length}
-use Rattle.laws.proofs.Clash.{never}
 use Rattle.cells.specs.Ceiling.{greatestCeiling}
 use Rattle.cells.proofs.Ceilings.{ceiling-cubed}
 use Rattle.table.specs.File.{Bytes}
-use Rattle.machine.specs.Object.{Object}
 use Rattle.machine.specs.Calls.{Call, Step, Running, Event}
-use Rattle.machine.specs.Run.{Config, Served, start, run}
-use Rattle.machine.specs.History.{Pending, Nothing, Pends, heard, pendingFrom, pending}
+use Rattle.machine.specs.History.{Nothing, Pends, pending}
 use Rattle.machine.specs.Demand.{StepAccepted}
-use Rattle.machine.proofs.Steps.Calls.{Serving, moves, step-task, step-idle, serving}
-use Rattle.machine.proofs.Points.Pending.{pendingOf, pending-is}
 use Rattle.records.specs.declared.record.Task.{Task}
 use Rattle.stepping.specs.declared.answer.StartAnswer.the-variants as start
 use Rattle.stepping.specs.Call.{startOf}
-use Rattle.stepping.specs.Opening.{Opening, objectIn}
+use Rattle.stepping.specs.Opening.{Opening}
 use Rattle.stepping.specs.Runs.{Store, serveOf, runOf, historyOf}
 use Rattle.stepping.proofs.Admission.{ceiling-ranges}
-use Rattle.stepping.proofs.Demands.{history-opened, answer-opened}
+use Rattle.stepping.proofs.Continued.{pending-more}
 use Rattle.stepping.proofs.Starts.{start-cells, start-row}
 use Rattle.laws.proofs.Tabulate.{tabulate-length}
 use Rattle.stepping.proofs.Theorem.{start-accepted, start-opens, demands-met}
-
--- ---- Lists of calls that go on
-
-pub run-more : (file : List ℕ) (xs : List Call) (x : Call) (s : Store) → runOf file (xs ++ (x ∷ [])) s ≡ serveOf file x (runOf file xs s) .store
-run-more file [] x s = refl
-run-more file (y ∷ xs) x s = run-more file xs x (serveOf file y s .store)
-
-pending-more : (t : ℕ) (p : Pending) (es : List Event) (e : Event) → pendingFrom t p (es ++ (e ∷ [])) ≡ heard t (e .call) (e .answer) (pendingFrom t p es)
-pending-more t p [] e = refl
-pending-more t p (x ∷ es) e = pending-more t (heard t (x .call) (x .answer) p) es e
 
 -- ---- An accepted start
 
@@ -67,20 +52,6 @@ pending-timely {n = n} a xs t o k e =
     let d = demands-met a in
     let low = ceiling-ranges n _ (ceiling-cubed n (a .some) (a .few)) .low in
     record { accepted = d .accepted xs t o k e; below = omega (arith, d .below xs t o k e, low) }
-
--- A step of the machine that answers running is one of a pending operation.
-machine-pends : {b : Object} {n : ℕ} {c : Config} {t : ℕ} {z : Served} → Serving b n c (Step t) z → z .answer ≡ Running → pendingOf (c .task t) ≡ Pends (c .task t .operation) (c .task t .steps)
-machine-pends (moves h d v) e = rw d
-machine-pends (step-task h) e = never cc
-machine-pends (step-idle h d) e = never cc
-
--- A step that answers running is one of a pending operation.
-pub running-pends : {file : List ℕ} {n q : ℕ} {s : Store} → Opening file n q s → (xs : List Call) (t : ℕ) → serveOf file (Step t) (runOf file xs s) .answer ≡ Running
-    → (o : ℕ) × ((k : ℕ) × (pending (historyOf file xs s) t ≡ Pends o k))
-running-pends {n = n} {q = q} a xs t e =
-    let b = objectIn a in
-    let z = machine-pends (serving b n (run b n xs (start q)) (Step t)) (sym (answer-opened a xs (Step t)) ∙ e) in
-    (_, (_, ap (λ es. pending es t) (history-opened a xs) ∙ pending-is b n xs q t ∙ z))
 
 -- A step that answers running is one more own step.
 pub pending-longer : {file : List ℕ} {n q : ℕ} {s : Store} → Opening file n q s → (xs : List Call) (t o k : ℕ) → pending (historyOf file xs s) t ≡ Pends o k

@@ -16,13 +16,13 @@ use Rattle.stepping.specs.Call.{BeginOutcome, beginOf, StepOutcome, stepOf, tas
 use Rattle.stepping.specs.Opening.{Opening}
 use Rattle.stepping.specs.Runs.{Store, serveOf, runOf}
 use Rattle.stepping.proofs.Between.{store-same}
+use Rattle.stepping.proofs.Continued.{run-append}
 use Rattle.stepping.proofs.Theorem.{touches-one-cell}
 use Rattle.bench_row.specs.First.{firstCount, beginFirst, stepFirst}
 use Rattle.bench_row.proofs.Firsts.{first-few}
 use Rattle.bench_session.specs.declared.run.Bench.{Bench}
 use Rattle.bench_session.specs.declared.run.Handled.{Handled}
 use Rattle.bench_session.specs.Run.{cellCount, beginBench, stepHeld, stepBench, runsOn, finishFrom}
-use Rattle.bench_session.proofs.Openings.{run-more}
 
 -- ---- The first cells and records
 
@@ -101,7 +101,7 @@ pub data Situation (file : List ℕ) (n : ℕ) (s : Store) : Type 0 where
 
 situation-more : {file : List ℕ} {n : ℕ} {s : Store} → Situation file n s → (x : Call) → Situation file n (serveOf file x s .store)
 situation-more (before e) x = before e
-situation-more {file} (during {first} o xs e) x = during o (xs ++ (x ∷ [])) (run-more file xs x first ∙ ap (λ (z : Store). serveOf file x z .store) e)
+situation-more {file} (during {first} o xs e) x = during o (xs ++ (x ∷ [])) (run-append file xs (x ∷ []) first ∙ ap (λ (z : Store). serveOf file x z .store) e)
 
 situation-as : {file : List ℕ} {n : ℕ} {s other : Store} → s ≡ other → Situation file n s → Situation file n other
 situation-as {file} {n} e = subst (λ (z : Store). Situation file n z) e

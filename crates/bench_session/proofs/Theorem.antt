@@ -18,6 +18,7 @@ use Rattle.stepping.specs.declared.answer.StepAnswer.the-variants as step
 use Rattle.stepping.specs.Call.{withRow, admitOf, stepIn, stepTask, stepOf, stepSaid, taskAt}
 use Rattle.stepping.specs.Opening.{Opening}
 use Rattle.stepping.specs.Runs.{Store, serveOf, runOf, historyOf}
+use Rattle.stepping.proofs.Continued.{run-append, accepted-pends}
 use Rattle.bench_lines.specs.declared.reply.Reply.{Reply}
 use Rattle.bench_lines.specs.declared.reply.Reply.the-variants as reply
 use Rattle.bench_row.specs.First.{stepFirst}
@@ -28,7 +29,7 @@ use Rattle.bench_session.specs.Statement.{EndsBy, benchAfter, Finishes, 
 use Rattle.bench_session.proofs.Feeds.{feed-parts}
 use Rattle.bench_session.proofs.Outputs.{whole-output, output-unfinished}
 use Rattle.bench_session.proofs.Runs.{finish-more, finish-last, most-turns}
-use Rattle.bench_session.proofs.Openings.{pending-timely, running-pends, pending-longer, run-more}
+use Rattle.bench_session.proofs.Openings.{pending-timely, pending-longer}
 use Rattle.bench_session.proofs.Situations.{lent, NineHeld, nine-step, lent-step, Situation, before, during}
 use Rattle.bench_session.proofs.Consistency.{consistent-after}
 
@@ -71,7 +72,7 @@ module _ {file : List ℕ} {n q : ℕ} {s : Store} (o : Opening file n q s) (t x
       let more = rw one at (finish-more (suc k) file t out (omega arith) runs) in
       let next = ap (λ (z : Store). serveOf file (Step t) z .store) same ∙ lent-step file bench nine t in
       let ends = accepted-responds k bench (rw told at (pending-timely o xs t x j p .accepted)) (answerOn file bench t) refl (λ e.
-      running-responds k (suc j) (stepBench file bench t) (xs ++ (Step t ∷ [])) (nine-step file bench nine t) (run-more file xs (Step t) s ∙ next)
+      running-responds k (suc j) (stepBench file bench t) (xs ++ (Step t ∷ [])) (nine-step file bench nine t) (run-append file xs (Step t ∷ []) s ∙ next)
       (ap runsOn (step-reply file bench t step.Running e)) (pending-longer o xs t x j p (told ∙ ap stepSaid e)) (omega arith)) in
       (ends .0, ends .1, ap (λ (h : Handled). h .reply) more ∙ ends .2)
 
@@ -104,9 +105,9 @@ finishes file bytes input t = at (answerOn file bench t) refl
     during-responds : {q : ℕ} {s : Store} → Opening file (bench .tasks) q s → (xs : List Call) → NineHeld bench → runOf file xs s ≡ lent bench → answerOn file bench t ≡ step.Running → Responds file mostTurns t (stepBench file bench t)
     during-responds {s = s} o xs nine same e =
         let told = ap (λ (z : Store). serveOf file (Step t) z .answer) same ∙ ap stepSaid e in
-        let (x, (j, p)) = running-pends o xs t told in
+        let (x, (j, p)) = accepted-pends o xs t (λ k z. never cc) in
         let next = ap (λ (z : Store). serveOf file (Step t) z .store) same ∙ lent-step file bench nine t in
-        running-responds o t x mostTurns (suc j) (stepBench file bench t) (xs ++ (Step t ∷ [])) (nine-step file bench nine t) (run-more file xs (Step t) s ∙ next)
+        running-responds o t x mostTurns (suc j) (stepBench file bench t) (xs ++ (Step t ∷ [])) (nine-step file bench nine t) (run-append file xs (Step t ∷ []) s ∙ next)
         (ap runsOn (step-reply file bench t step.Running e)) (pending-longer o xs t x j p told) (omega (arith, most-turns))
 
     responds : NineHeld bench → Situation file (bench .tasks) (lent bench) → answerOn file bench t ≡ step.Running → Responds file mostTurns t (stepBench file bench t)

@@ -15,6 +15,7 @@ pub mod Advances
 pub mod Simulation
 pub mod Starts
 pub mod Demands
+pub mod Continued
 pub mod Outcomes
 pub mod Between
 pub mod Rows

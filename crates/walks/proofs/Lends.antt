@@ -16,7 +16,7 @@ use types.Share.{arr-parts}
 use denote.RattleType.{RattleType}
 use denote.Memory.{shares}
 use denote.Ref.{RefT, ptr, name, now}
-use denote.Slice.{sliceVal, slice-vals, MutSlice, ShrSlice, Room, heres, codedHoleys, at-slice}
+use denote.Slice.{slice-vals, MutSlice, ShrSlice, Room, heres, codedHoleys, at-slice}
 use denote.Lend.{Held, lends-shr-slice}
 use denote.Index.{opens-slice, closes-slice}
 use denote.Shadow.{pureI}

@@ -19,6 +19,7 @@ use Rattle.machine.proofs.Book.Progress.{Progress, idles, reads, announces, app
 use Rattle.machine.proofs.Points.Pending.{pendingOf, pending-is}
 use Rattle.stepping.specs.Runs.{Store}
 use Rattle.stepping.specs.Opening.{Opening, objectIn, shown}
+use Rattle.stepping.proofs.Continued.{accepted-pends}
 use Rattle.stepping.proofs.Demands.{machineRun, in-range, history-opened, answer-opened}
 use Rattle.stepping.proofs.Theorem.{demands-met}
 use Rattle.table.proofs.Accepted.{response-byte}
@@ -33,11 +34,6 @@ module _ {b : Object} {n : ℕ} {c : Config} {t : ℕ} where
   begin-idle (begin-task h) a = never cc
   begin-idle (begin-operation h k) a = never cc
   begin-idle (begin-pending h k d) a = never cc
-
-  step-works : {z : Served} → Serving b n c (Step t) z → ((k : ℕ) → z .answer ≡ Refused k → ⊥) → isPending (pendingOf (c .task t)) ≡ true
-  step-works (moves h d v) a = rw d refl
-  step-works (step-task h) a = absurd (a 7 refl)
-  step-works (step-idle h e) a = absurd (a 10 refl)
 
 -- An operation ends with an outcome of the object, or with one that its record has saved.
 ended-bounded : (b : Object) (n : ℕ) {m : Memory} {i x : ℕ} {f : Phase} {e : Effect} {y : Next} → Progress b m i x f e y → ((q o : ℕ) → b .outcome q o .response < b .outcomes)
@@ -59,15 +55,13 @@ step-bounded b n c formed all (step-idle h d) r j e = never cc
 -- ---- Runs
 
 module _ {file : List ℕ} {n q : ℕ} {s : Store} (o : Opening file n q s) (xs : List Call) (t : ℕ) where
-  -- What is pending by the history is what is pending by the machine's record.
-  pending-opened : isPending (pending (shown o .history xs) t) ≡ isPending (pendingOf (machineRun o xs .task t))
-  pending-opened = ap (λ es. isPending (pending es t)) (history-opened o xs) ∙ ap isPending (pending-is (objectIn o) n xs q t)
-
   pub begun-idle : (x : ℕ) → shown o .answer xs (Begin t x) ≡ Begun → isPending (pending (shown o .history xs) t) ≡ false
-  begun-idle x e = pending-opened ∙ begin-idle (serving (objectIn o) n (machineRun o xs) (Begin t x)) (sym (answer-opened o xs (Begin t x)) ∙ e)
+  begun-idle x e =
+      ap (λ es. isPending (pending es t)) (history-opened o xs) ∙ ap isPending (pending-is (objectIn o) n xs q t)
+      ∙ begin-idle (serving (objectIn o) n (machineRun o xs) (Begin t x)) (sym (answer-opened o xs (Begin t x)) ∙ e)
 
   pub accepted-pending : ((k : ℕ) → shown o .answer xs (Step t) ≡ Refused k → ⊥) → isPending (pending (shown o .history xs) t) ≡ true
-  accepted-pending h = pending-opened ∙ step-works (serving (objectIn o) n (machineRun o xs) (Step t)) (λ k e. h k (answer-opened o xs (Step t) ∙ e))
+  accepted-pending h = let (_, (_, e)) = accepted-pends o xs t h in ap isPending e
 
   -- A pending task's step is accepted: the demand.
   pub refused-idle : (k : ℕ) → shown o .answer xs (Step t) ≡ Refused k → isPending (pending (shown o .history xs) t) ≡ false

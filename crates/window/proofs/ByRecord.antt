@@ -1,8 +1,7 @@
 -- A window call looks at the record of its task alone, and a command is served once.
 use mathlib.Core.Path.{_≡_, refl, sym, ap, _∙_}
-use mathlib.Core.Logic.{_≢_}
 use mathlib.Core.List.{List, []}
-use Prim.Native.Nat.{ℕ, _<_}
+use Prim.Native.Nat.{ℕ}
 use native.Mathlib.Omega.{arith}
 use lib.ListN.{length}
 use Rattle.records.specs.declared.record.Task.{Task}
@@ -11,10 +10,10 @@ use Rattle.stepping.specs.Step.{TaskOutcome}
 use Rattle.stepping.specs.Call.{beginTask, stepTask, taskAt}
 use Rattle.stepping.proofs.Theorem.{begins-by-record, steps-by-record}
 use Rattle.window.specs.declared.Place.{Place}
-use Rattle.window.specs.Written.{beginIn, stepIn}
-use Rattle.window.specs.Serve.{Asked, Settled, Begins, Steps, commanded, askedIn, askedOf, begunAnswer, steppedAnswer, WindowOutcome, made, windowOf}
+use Rattle.window.specs.Written.{afterBegin, afterStep}
+use Rattle.window.specs.Serve.{Asked, Settled, Begins, Steps, commanded, askedIn, askedOf, begunAnswer, steppedAnswer, made, windowOf}
 use Rattle.window.specs.Events.{Served, WindowStore, happen, callBy}
-use Rattle.window.specs.Statement.{HasWindow, RecordAlone, ServedOnce}
+use Rattle.window.specs.Statement.{HasWindow, ByRecord, RecordAlone, ServedOnce}
 use Rattle.window.proofs.Commands as found
 use Rattle.window.proofs.Commands.{Placed, placed}
 use Rattle.window.proofs.Left.{others-stay, taken-once}
@@ -27,16 +26,8 @@ module _ (file cells : List ℕ) (row others : List Task) (windows : List ℕ) (
   step-same : stepTask file cells (length row) t (taskAt row t) ≡ stepTask file cells (length others) t (taskAt others t)
   step-same = ap (λ n. stepTask file cells n t (taskAt row t)) long ∙ ap (stepTask file cells (length others) t) same
 
-  record Same (out out′ : WindowOutcome) : Type 0 where
-    answer : out .answer ≡ out′ .answer
-    cells-same : out .cells ≡ out′ .cells
-    windows-same : out .windows ≡ out′ .windows
-    own : t < length row → taskAt (out .row) t ≡ taskAt (out′ .row) t
-    row-long : length (out .row) ≡ length row
-    rest : (j : ℕ) → j ≢ t → taskAt (out .row) j ≡ taskAt row j
-
-  made-same : (a : Asked) → Same (made file cells row windows t a) (made file cells others windows t a)
-  made-same (Settled answer left) = record { answer = refl; cells-same = refl; windows-same = refl; own = λ _. same; row-long = refl; rest = λ j _. refl }
+  made-same : (a : Asked) → ByRecord file cells row windows t (made file cells row windows t a) (made file cells others windows t a)
+  made-same (Settled answer left) = record { answer = refl; cells-same = refl; windows-same = refl; own = λ _. same; long = refl; rest = λ j _. refl }
   made-same (Begins o) =
       let (a, put) = begins-by-record file row t o in
       let (a′, put′) = begins-by-record file others t o in
@@ -44,9 +35,9 @@ module _ (file cells : List ℕ) (row others : List Task) (windows : List ℕ) (
       record {
         answer = ap begunAnswer answers;
         cells-same = refl;
-        windows-same = ap (beginIn windows t) answers;
+        windows-same = ap (afterBegin windows t) answers;
         own = λ below. put .named below ∙ ap (λ (x : Begin). x .task) (begin-same o) ∙ sym (put′ .named (omega (arith, below, long)));
-        row-long = put .long;
+        long = put .long;
         rest = put .others;
       }
   made-same Steps =
@@ -56,20 +47,15 @@ module _ (file cells : List ℕ) (row others : List Task) (windows : List ℕ) (
       record {
         answer = ap steppedAnswer answers;
         cells-same = c ∙ ap (λ (x : TaskOutcome). x .cells) step-same ∙ sym c′;
-        windows-same = ap (stepIn windows t) answers;
+        windows-same = ap (afterStep windows t) answers;
         own = λ below. put .named below ∙ ap (λ (x : TaskOutcome). x .task) step-same ∙ sym (put′ .named (omega (arith, below, long)));
-        row-long = put .long;
+        long = put .long;
         rest = put .others;
       }
 
-  served-same : Same (windowOf file cells row windows t) (windowOf file cells others windows t)
-  unfolding windowOf
-  served-same = rw (← long) (made-same (askedOf windows (length row) t))
-
 pub record-alone : (file cells : List ℕ) (row : List Task) (windows : List ℕ) (t : ℕ) → RecordAlone file cells row windows t
-record-alone file cells row windows t others long same =
-    let r = served-same file cells row others windows t long same in
-    record { answer = r .answer; cells-same = r .cells-same; windows-same = r .windows-same; own = r .own; long = r .row-long; rest = r .rest }
+unfolding windowOf
+record-alone file cells row windows t others long same = rw (← long) (made-same file cells row others windows t long same (askedOf windows (length row) t))
 
 -- After a window call another one finds no command, or has no window.
 pub served-once : (file : List ℕ) (l : WindowStore) → ServedOnce file l

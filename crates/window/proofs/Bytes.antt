@@ -1,13 +1,13 @@
 -- What a command leaves in its window, read back byte by byte.
 use mathlib.Core.Path.{_≡_, refl, sym, ap, _∙_}
 use mathlib.Core.Bool.{Bool, true, false, cond}
-use mathlib.Core.List.{List, [], _∷_}
+use mathlib.Core.List.{List}
 use mathlib.Core.Logic.{_↔_, _≢_}
-use Prim.Native.Nat.{ℕ, zero, suc, _+_, _*_, _/_, _%_, _<_, _≤_}
+use Prim.Native.Nat.{ℕ, _+_, _*_, _/_, _%_, _<_, _≤_}
 use native.Mathlib.Omega.{arith}
 use borrow.Author.Tests.{eqb-true, eq-eqb, ne-eqb}
 use lib.ListN.{length, getD, set, length-set}
-use lib.Seq.{getD-set-same, getD-set-other}
+use lib.Seq.{getD-set-same, getD-set-other, set-getD}
 use Rattle.refusal.specs.declared.Refusal.{Refusal}
 use Rattle.refusal.specs.Number.{numberOf}
 use Rattle.window.specs.declared.status.Status.{Status}
@@ -28,6 +28,7 @@ bit-named byte = (eqb-true (byte % 2) 1, eq-eqb (byte % 2) 1)
 
 pub bits-named : (windows : List ℕ) (t : ℕ) → BitsNamed windows t
 bits-named windows t = record {
+  byte = λ k. refl;
   busy = bit-named (byteAt windows t 2);
   done = bit-named (byteAt windows t 2 / 2);
   refused = bit-named (byteAt windows t 2 / 4);
@@ -64,12 +65,6 @@ interrupt-read waits byte = (on-bit waits (interruptByte waits byte) (omega (ari
 
 -- ---- Bytes 1 to 5 of a window
 
--- A place of a list that gets what it has.
-set-held : (xs : List ℕ) (i v : ℕ) → getD xs i 0 ≡ v → set xs i v ≡ xs
-set-held [] i v e = refl
-set-held (x ∷ xs) zero v e = ap (λ y. y ∷ xs) (sym e)
-set-held (x ∷ xs) (suc i) v e = ap (λ ys. x ∷ ys) (set-held xs i v e)
-
 pub record Bytes : Type 0 where
   pub command : ℕ
   pub status : ℕ
@@ -92,7 +87,7 @@ module _ (windows : List ℕ) (t : ℕ) where
   other k byte j h = getD-set-other windows (8 * t + k) (8 * t + j) byte 0 (λ e. h (omega (arith, e)))
 
   held : (k byte : ℕ) → byteAt windows t k ≡ byte → withByte windows t k byte ≡ windows
-  held k byte e = set-held windows (8 * t + k) byte e
+  held k byte e = ap (set windows (8 * t + k)) (sym e) ∙ set-getD windows (8 * t + k) 0
 
 module _ (windows : List ℕ) (t : ℕ) (b : Bytes) where
   abbrev w₁ : List ℕ
@@ -134,29 +129,29 @@ module _ (windows : List ℕ) (t : ℕ) (b : Bytes) where
       let e₁ = other w₄ t 5 (b .interrupt) 1 (λ e. omega (arith, e)) ∙ other w₃ t 4 (b .refusal) 1 (λ e. omega (arith, e)) ∙ other w₂ t 3 (b .response) 1 (λ e. omega (arith, e)) ∙ other w₁ t 2 (b .status) 1 (λ e. omega (arith, e)) ∙ same windows t 1 (b .command) (omega (arith, h)) in
       λ k. record { command = e₁ k; status = e₂ k; response = e₃ k; refusal = e₄ k; interrupt = e₅ k }
 
--- ---- What each command leaves, as five bytes
+-- ---- What each command makes of the five bytes
+
+abbrev pub takenBytes : Bytes → Bytes
+takenBytes b = record { command = 0; status = b .status; response = b .response; refusal = b .refusal; interrupt = b .interrupt }
+
+abbrev pub begunBytes : Bytes → Bytes
+begunBytes b = record { command = 0; status = statusByte (begunStatus (statusOf (b .status))); response = b .response; refusal = b .refusal; interrupt = b .interrupt }
+
+abbrev pub refusedBytes : Refusal → Bytes → Bytes
+refusedBytes c b = record { command = 0; status = statusByte (refusedStatus (statusOf (b .status))); response = b .response; refusal = numberOf c; interrupt = interruptByte true (b .interrupt) }
+
+abbrev pub endedBytes : ℕ → Bool → Bytes → Bytes
+endedBytes r v b = record { command = 0; status = statusByte (endedStatus v (statusOf (b .status))); response = r % 256; refusal = b .refusal; interrupt = interruptByte true (b .interrupt) }
+
+abbrev pub acknowledgedBytes : Bytes → Bytes
+acknowledgedBytes b = record { command = 0; status = statusByte (acknowledgedStatus (statusOf (b .status))); response = b .response; refusal = b .refusal; interrupt = interruptByte false (b .interrupt) }
 
 module _ (windows : List ℕ) (t : ℕ) where
-  abbrev pub takenBytes : Bytes
-  takenBytes = record { command = 0; status = byteAt windows t 2; response = byteAt windows t 3; refusal = byteAt windows t 4; interrupt = byteAt windows t 5 }
-
-  abbrev pub begunBytes : Bytes
-  begunBytes = record { command = 0; status = statusByte (begunStatus (statusAt windows t)); response = byteAt windows t 3; refusal = byteAt windows t 4; interrupt = byteAt windows t 5 }
-
-  abbrev pub refusedBytes : Refusal → Bytes
-  refusedBytes c = record { command = 0; status = statusByte (refusedStatus (statusAt windows t)); response = byteAt windows t 3; refusal = numberOf c; interrupt = interruptByte true (byteAt windows t 5) }
-
-  abbrev pub endedBytes : ℕ → Bool → Bytes
-  endedBytes r v = record { command = 0; status = statusByte (endedStatus v (statusAt windows t)); response = r % 256; refusal = byteAt windows t 4; interrupt = interruptByte true (byteAt windows t 5) }
-
-  abbrev pub acknowledgedBytes : Bytes
-  acknowledgedBytes = record { command = 0; status = statusByte (acknowledgedStatus (statusAt windows t)); response = byteAt windows t 3; refusal = byteAt windows t 4; interrupt = interruptByte false (byteAt windows t 5) }
-
   -- Byte k after bytes 1 and 2 are written.
   later : (s k : ℕ) → k ≢ 1 → k ≢ 2 → byteAt (withByte (taken windows t) t 2 s) t k ≡ byteAt windows t k
   later s k h g = other (taken windows t) t 2 s k g ∙ other windows t 1 _ k h
 
-  pub taken-bytes : taken windows t ≡ withBytes windows t takenBytes
+  pub taken-bytes : taken windows t ≡ withBytes windows t (takenBytes (bytesAt windows t))
   unfolding withBytes
   taken-bytes =
       sym (rw (
@@ -179,19 +174,19 @@ module _ (windows : List ℕ) (t : ℕ) where
     fifth : withByte marked t 5 (byteAt windows t 5) ≡ marked
     fifth = held marked t 5 (byteAt windows t 5) (later s 5 (λ e. omega (arith, e)) (λ e. omega (arith, e)))
 
-  pub begun-bytes : begunIn windows t ≡ withBytes windows t begunBytes
+  pub begun-bytes : begunIn windows t ≡ withBytes windows t (begunBytes (bytesAt windows t))
   unfolding withBytes
   begun-bytes = let s = statusByte (begunStatus (statusAt windows t)) in sym (rw (third s, fourth s, fifth s) refl)
 
-  pub refused-bytes : (c : Refusal) → refusedIn windows t c ≡ withBytes windows t (refusedBytes c)
+  pub refused-bytes : (c : Refusal) → refusedIn windows t c ≡ withBytes windows t (refusedBytes c (bytesAt windows t))
   unfolding withBytes
   refused-bytes c = let s = statusByte (refusedStatus (statusAt windows t)) in sym (rw (third s) refl)
 
-  pub acknowledged-bytes : acknowledgedIn windows t ≡ withBytes windows t acknowledgedBytes
+  pub acknowledged-bytes : acknowledgedIn windows t ≡ withBytes windows t (acknowledgedBytes (bytesAt windows t))
   unfolding withBytes
   acknowledged-bytes = let s = statusByte (acknowledgedStatus (statusAt windows t)) in sym (rw (third s, fourth s) refl)
 
-  pub ended-bytes : (r : ℕ) (v : Bool) → endedIn windows t r v ≡ withBytes windows t (endedBytes r v)
+  pub ended-bytes : (r : ℕ) (v : Bool) → endedIn windows t r v ≡ withBytes windows t (endedBytes r v (bytesAt windows t))
   unfolding withBytes
   ended-bytes r v =
       let s = statusByte (endedStatus v (statusAt windows t)) in

@@ -18,16 +18,13 @@ use Rattle.window.specs.declared.Place.{Place}
 use Rattle.window.specs.declared.WindowAnswer.{WindowAnswer}
 use Rattle.window.specs.declared.WindowAnswer.the-variants as window
 use Rattle.window.specs.Window.{byteAt, statusAt}
-use Rattle.window.specs.Written.{taken, refusedIn, begunIn, endedIn, acknowledgedIn, beginIn, stepIn}
+use Rattle.window.specs.Written.{taken, refusedIn, begunIn, endedIn, acknowledgedIn, afterBegin, afterStep}
 use Rattle.window.specs.Serve.{Asked, askedIn, askedOf, WindowOutcome, begunAnswer, steppedAnswer, made, windowOf}
 use Rattle.window.specs.Statement.{HasWindow}
 use Rattle.window.proofs.Commands as found
 use Rattle.window.proofs.Commands.{Placed, placed, Command, command}
 
 module _ (file cells : List ℕ) (row : List Task) (windows : List ℕ) (t : ℕ) where
-  abbrev Has : Type 0
-  Has = HasWindow windows (length row) t
-
   -- A call that leaves cells and row.
   abbrev pub still : List ℕ → WindowAnswer → WindowOutcome
   still left answer = record { cells = cells; row = row; windows = left; answer = answer }
@@ -52,13 +49,13 @@ module _ (file cells : List ℕ) (row : List Task) (windows : List ℕ) (t : ℕ
     step-refused : HasWindow windows (length row) t → byteAt windows t 1 ≡ 2 → (c : Refusal) → stepOf file cells row t .answer ≡ step.Refused c → Case (still (refusedIn windows t c) (window.Refused c))
 
   begin-case : HasWindow windows (length row) t → byteAt windows t 1 ≡ 1 → statusAt windows t .done ≡ false → (a : BeginAnswer) → beginOf file row t (byteAt windows t 0) .answer ≡ a
-      → Case (record { cells = cells; row = beginOf file row t (byteAt windows t 0) .row; windows = beginIn windows t a; answer = begunAnswer a })
+      → Case (record { cells = cells; row = beginOf file row t (byteAt windows t 0) .row; windows = afterBegin windows t a; answer = begunAnswer a })
   begin-case h one d begin.Begun e = begun h one d e
   begin-case h one d (begin.Refused c) e =
       subst (λ (y : List Task). Case (record { cells = cells; row = y; windows = refusedIn windows t c; answer = window.Refused c })) (sym (begin-unchanged file row t (byteAt windows t 0) c e)) (begin-refused h one d c e)
 
   step-case : HasWindow windows (length row) t → byteAt windows t 1 ≡ 2 → (a : StepAnswer) → stepOf file cells row t .answer ≡ a
-      → Case (record { cells = stepOf file cells row t .cells; row = stepOf file cells row t .row; windows = stepIn windows t a; answer = steppedAnswer a })
+      → Case (record { cells = stepOf file cells row t .cells; row = stepOf file cells row t .row; windows = afterStep windows t a; answer = steppedAnswer a })
   step-case h two step.Running e = running h two e
   step-case h two (step.Ended r v k) e = ended h two r v k e
   step-case h two (step.Refused c) e =

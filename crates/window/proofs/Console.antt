@@ -1,7 +1,7 @@
 -- Theorem C: what the window of a task tells, after all events that leave it to its console.
 use mathlib.Core.Path.{_≡_, refl, sym, ap, subst, _∙_}
 use mathlib.Core.Logic.{_≢_, _⊎_, inl, inr}
-use mathlib.Core.Bool.{Bool, true, false}
+use mathlib.Core.Bool.{Bool, true, false, _||_, or-true}
 use mathlib.Core.List.{List, [], _∷_, _++_, append-nil}
 use Prim.Native.Nat.{ℕ, _+_, _*_, _<_, _≤_}
 use native.Mathlib.Omega.{arith}
@@ -20,6 +20,7 @@ use Rattle.records.specs.declared.record.Task.{Task}
 use Rattle.stepping.specs.Call.{beginSaid, stepSaid}
 use Rattle.stepping.specs.Runs.{Store, serveOf, historyOf}
 use Rattle.stepping.specs.Opening.{Opening, shown}
+use Rattle.stepping.proofs.Continued.{pending-more}
 use Rattle.stepping.proofs.Theorem.{demands-met, in-form-throughout}
 use Rattle.window.specs.declared.status.Status.{Status}
 use Rattle.window.specs.declared.WindowAnswer.{WindowAnswer}
@@ -29,15 +30,14 @@ use Rattle.window.specs.Serve.{askedOf, WindowOutcome, windowOf}
 use Rattle.window.specs.Events.{WindowEvent, Written, Served, Direct, WindowStore, opened, happen, after, callBy, callAt, callsOf}
 use Rattle.window.specs.Console.{Blank, taskOf, Leaves, AllLeave, isPending, endedBy, lastEnded, Note, Ending, Acknowledging, Other, Refusing, endingOf, noted, noteOf, notesOf, numberBy, lastRefused}
 use Rattle.window.specs.Statement.{HasWindow, Shows, Tells}
-use Rattle.window.proofs.Commands.{command}
 use Rattle.window.proofs.Cases.{Case, unfit, past, nothing, unknown, acknowledged, unacknowledged, begun, begin-refused, running, ended, step-refused, cases}
 use Rattle.window.proofs.Left.{inside, others-stay}
 use Rattle.window.proofs.Shown.{shows-taken, shows-begun, shows-refused, shows-ended, shows-acknowledged}
-use Rattle.window.proofs.Judged.{begin-made, step-made}
+use Rattle.window.proofs.Judged.{begin-made, step-made, none-made}
 use Rattle.window.proofs.Runs.{same-run, calls-grow, after-append}
 use Rattle.window.proofs.Answers.{response-fits}
-use Rattle.window.proofs.Notes.{pending-more, ended-more, refused-more, notes-more, doneBy, markedBy, bitFrom, bit-more, done-since, marked-since}
-use Rattle.window.proofs.Settled.{heard-other, ended-other, longer-pending, no-call, one-call, noted-served, either, either-true, either-read}
+use Rattle.window.proofs.Notes.{ended-more, refused-more, notes-more, doneBy, markedBy, bitFrom, bit-more, done-since, marked-since}
+use Rattle.window.proofs.Settled.{heard-other, ended-other, longer-pending, one-call, noted-served, or-read}
 
 module _ {file : List ℕ} {n q : ℕ} {s : Store} (o : Opening file n q s) (windows : List ℕ) (t : ℕ) where
   -- What is lent, the calls and the history, after the events.
@@ -91,7 +91,7 @@ module _ {file : List ℕ} {n q : ℕ} {s : Store} (o : Opening file n q s) (win
     pub moved : statusAt (lent es .windows) t .moved ≡ lastEnded t noOutcome (told es) .moved
     pub done : statusAt (lent es .windows) t .done ≡ bitFrom doneBy false (notes es)
     pub refused : statusAt (lent es .windows) t .refused ≡ bitFrom markedBy false (notes es)
-    pub interrupt : interruptAt (lent es .windows) t ≡ either (statusAt (lent es .windows) t .done) (statusAt (lent es .windows) t .refused)
+    pub interrupt : interruptAt (lent es .windows) t ≡ (statusAt (lent es .windows) t .done || statusAt (lent es .windows) t .refused)
     pub refusal : byteAt (lent es .windows) t 4 ≡ lastRefused 0 (notes es)
 
   module _ (es : List WindowEvent) (e : WindowEvent) (old : Holds es) where
@@ -101,7 +101,7 @@ module _ {file : List ℕ} {n q : ℕ} {s : Store} (o : Opening file n q s) (win
     -- By what is noted, pending and ended after the event, and what the window shows.
     next : (note : Note) → noteOf file t e (lent es) ≡ note → (v : Outcome) → lastEnded t noOutcome (told (es ++ (e ∷ []))) ≡ v → length (happen file e (lent es) .windows) ≡ 8 * n
         → Shows (happen file e (lent es) .windows) t (isPending (pending (told (es ++ (e ∷ []))) t)) (doneBy note (statusAt (lent es .windows) t .done)) (markedBy note (statusAt (lent es .windows) t .refused)) (v .moved)
-        (either (doneBy note (statusAt (lent es .windows) t .done)) (markedBy note (statusAt (lent es .windows) t .refused))) (v .response) (numberBy note (byteAt (lent es .windows) t 4))
+        (doneBy note (statusAt (lent es .windows) t .done) || markedBy note (statusAt (lent es .windows) t .refused)) (v .response) (numberBy note (byteAt (lent es .windows) t 4))
         → Holds (es ++ (e ∷ []))
     next note en v ev long shows =
         let left = ap (λ (l : WindowStore). l .windows) (lent-next es e) in
@@ -116,7 +116,7 @@ module _ {file : List ℕ} {n q : ℕ} {s : Store} (o : Opening file n q s) (win
           moved = ap (λ (z : Status). z .moved) status ∙ shows .moved-bit ∙ ap (λ (z : Outcome). z .moved) (sym ev);
           done = done-is ∙ ap (doneBy note) (old .done) ∙ sym (bit-more doneBy false (notes es) note) ∙ ap (bitFrom doneBy false) (sym more);
           refused = refused-is ∙ ap (markedBy note) (old .refused) ∙ sym (bit-more markedBy false (notes es) note) ∙ ap (bitFrom markedBy false) (sym more);
-          interrupt = ap (λ z. interruptAt z t) left ∙ shows .interrupt-bit ∙ ap (λ b. either b (markedBy note (statusAt (lent es .windows) t .refused))) (sym done-is) ∙ ap (either (statusAt (lent (es ++ (e ∷ [])) .windows) t .done)) (sym refused-is);
+          interrupt = ap (λ z. interruptAt z t) left ∙ shows .interrupt-bit ∙ ap (λ b. b || markedBy note (statusAt (lent es .windows) t .refused)) (sym done-is) ∙ ap (λ b. statusAt (lent (es ++ (e ∷ [])) .windows) t .done || b) (sym refused-is);
           refusal = ap (λ z. byteAt z t 4) left ∙ shows .refusal-byte ∙ ap (numberBy note) (old .refusal) ∙ sym (refused-more 0 (notes es) note) ∙ ap (lastRefused 0) (sym more);
         }
 
@@ -196,20 +196,20 @@ module _ {file : List ℕ} {n q : ℕ} {s : Store} (o : Opening file n q s) (win
         → isPending (pending (told (es ++ (Served t ∷ []))) t) ≡ isPending (pending (told es) t) → lastEnded t noOutcome (told (es ++ (Served t ∷ []))) ≡ lastEnded t noOutcome (told es) → Holds (es ++ (Served t ∷ []))
     marks c has out eo ea shows ep ev =
         next es (Served t) old (Refusing (numberOf c)) (note-is _ (window.Refused c) refl (ap (λ (z : WindowOutcome). z .answer) eo ∙ ea)) (lastEnded t noOutcome (told es)) ev long-next
-        (subst (λ (z : WindowOutcome). Shows (z .windows) t (isPending (pending (told (es ++ (Served t ∷ []))) t)) (statusAt ws t .done) true (lastEnded t noOutcome (told es) .moved) (either (statusAt ws t .done) true) (lastEnded t noOutcome (told es) .response) (numberOf c)) (sym eo)
+        (subst (λ (z : WindowOutcome). Shows (z .windows) t (isPending (pending (told (es ++ (Served t ∷ []))) t)) (statusAt ws t .done) true (lastEnded t noOutcome (told es) .moved) (statusAt ws t .done || true) (lastEnded t noOutcome (told es) .response) (numberOf c)) (sym eo)
         (record {
           busy-bit = shows .busy-bit ∙ old .busy ∙ sym ep;
           done-bit = shows .done-bit;
           refused-bit = shows .refused-bit;
           moved-bit = shows .moved-bit ∙ old .moved;
-          interrupt-bit = shows .interrupt-bit ∙ either-true (statusAt ws t .done);
+          interrupt-bit = shows .interrupt-bit ∙ sym (or-true (statusAt ws t .done));
           response-byte = shows .response-byte ∙ old .response;
           refusal-byte = shows .refusal-byte;
         }))
 
     -- A call that makes no direct call.
     none : byteAt (lent es .windows) t 1 ≢ 2 → (byteAt (lent es .windows) t 1 ≡ 1 → statusAt (lent es .windows) t .done ≡ true) → callAt (Served t) (lent es) ≡ []
-    none two one = no-call ws (length ys) t two one
+    none two one = none-made ws (length ys) t .1 (λ _. (two, one))
 
     pub begin-call : HasWindow (lent es .windows) (length (lent es .store .row)) t → byteAt (lent es .windows) t 1 ≡ 1 → statusAt (lent es .windows) t .done ≡ false → callAt (Served t) (lent es) ≡ Begin t (byteAt (lent es .windows) t 0) ∷ []
     begin-call has one d = begin-made ws (length ys) t (byteAt ws t 0) .1 (has, one, d, refl)
@@ -231,7 +231,7 @@ module _ {file : List ℕ} {n q : ℕ} {s : Store} (o : Opening file n q s) (win
     }
 
     with-interrupt : {left : List ℕ} {b d r m : Bool} {j k : ℕ} → Shows left t b d r m (interruptAt (lent es .windows) t) j k
-        → Shows left t b d r m (either (statusAt (lent es .windows) t .done) (statusAt (lent es .windows) t .refused)) j k
+        → Shows left t b d r m (statusAt (lent es .windows) t .done || statusAt (lent es .windows) t .refused) j k
     with-interrupt shows = record {
       busy-bit = shows .busy-bit;
       done-bit = shows .done-bit;
@@ -284,7 +284,7 @@ module _ {file : List ℕ} {n q : ℕ} {s : Store} (o : Opening file n q s) (win
         let now = begun-now call (sym (answer-shown es x) ∙ ap beginSaid a) in
         next es (Served t) old Other (note-is (x ∷ []) window.Served call (ap (λ (y : WindowOutcome). y .answer) eo) ∙ noted-served (byteAt ws t 1) (historyOf file (x ∷ []) (lent es .store)) (λ e. omega (arith, z, e)) ∙ ap (λ y. endingOf (beginSaid y)) a)
         (lastEnded t noOutcome (told es)) (ended-call es (Served t) x call) long-next
-        (subst (λ (y : WindowOutcome). Shows (y .windows) t (isPending (pending (told (es ++ (Served t ∷ []))) t)) (statusAt ws t .done) (statusAt ws t .refused) (lastEnded t noOutcome (told es) .moved) (either (statusAt ws t .done) (statusAt ws t .refused)) (lastEnded t noOutcome (told es) .response) (byteAt ws t 4)) (sym eo)
+        (subst (λ (y : WindowOutcome). Shows (y .windows) t (isPending (pending (told (es ++ (Served t ∷ []))) t)) (statusAt ws t .done) (statusAt ws t .refused) (lastEnded t noOutcome (told es) .moved) (statusAt ws t .done || statusAt ws t .refused) (lastEnded t noOutcome (told es) .response) (byteAt ws t 4)) (sym eo)
         (with-interrupt (as-before shows (sym now))))
     own-holds (begin-refused h z d c a) eo =
         let x = Begin t (byteAt ws t 0) in
@@ -299,7 +299,7 @@ module _ {file : List ℕ} {n q : ℕ} {s : Store} (o : Opening file n q s) (win
         let now = running-now call answer in
         next es (Served t) old Other (note-is (Step t ∷ []) window.Served call (ap (λ (y : WindowOutcome). y .answer) eo) ∙ noted-served (byteAt ws t 1) (historyOf file (Step t ∷ []) (lent es .store)) (λ e. omega (arith, z, e)) ∙ ap (λ y. endingOf (stepSaid y)) a)
         (lastEnded t noOutcome (told es)) (ended-call es (Served t) (Step t) call ∙ ap (λ y. endedBy t (Step t) y (lastEnded t noOutcome (told es))) answer) long-next
-        (subst (λ (y : WindowOutcome). Shows (y .windows) t (isPending (pending (told (es ++ (Served t ∷ []))) t)) (statusAt ws t .done) (statusAt ws t .refused) (lastEnded t noOutcome (told es) .moved) (either (statusAt ws t .done) (statusAt ws t .refused)) (lastEnded t noOutcome (told es) .response) (byteAt ws t 4)) (sym eo)
+        (subst (λ (y : WindowOutcome). Shows (y .windows) t (isPending (pending (told (es ++ (Served t ∷ []))) t)) (statusAt ws t .done) (statusAt ws t .refused) (lastEnded t noOutcome (told es) .moved) (statusAt ws t .done || statusAt ws t .refused) (lastEnded t noOutcome (told es) .response) (byteAt ws t 4)) (sym eo)
         (with-interrupt (as-before shows (old .busy ∙ sym now))))
     own-holds (ended h z r v k a) eo =
         let call = step-call h z in
@@ -347,7 +347,7 @@ module _ {file : List ℕ} {n q : ℕ} {s : Store} (o : Opening file n q s) (win
         moved = ap (λ z. statusOf z .moved) (zero 2 (omega arith)) ∙ ap (λ hs. lastEnded t noOutcome hs .moved) (sym (demands-met o .begins));
         done = ap (λ z. statusOf z .done) (zero 2 (omega arith));
         refused = ap (λ z. statusOf z .refused) (zero 2 (omega arith));
-        interrupt = ap on (zero 5 (omega arith)) ∙ sym (ap (λ z. either (statusOf z .done) (statusOf z .refused)) (zero 2 (omega arith)));
+        interrupt = ap on (zero 5 (omega arith)) ∙ sym (ap (λ z. statusOf z .done || statusOf z .refused) (zero 2 (omega arith)));
         refusal = zero 4 (omega arith);
       }
 
@@ -366,6 +366,6 @@ module _ {file : List ℕ} {n q : ℕ} {s : Store} (o : Opening file n q s) (win
     moved = h .moved;
     done = let (f, g) = done-since (notes es) in ((λ e. f (sym (h .done) ∙ e)), λ z. h .done ∙ g z);
     refused = let (f, g) = marked-since (notes es) in ((λ e. f (sym (h .refused) ∙ e)), λ z. h .refused ∙ g z);
-    interrupt = let (f, g) = either-read (statusAt (lent es .windows) t .done) (statusAt (lent es .windows) t .refused) in ((λ e. f (sym (h .interrupt) ∙ e)), λ z. h .interrupt ∙ g z);
+    interrupt = let (f, g) = or-read (statusAt (lent es .windows) t .done) (statusAt (lent es .windows) t .refused) in ((λ e. f (sym (h .interrupt) ∙ e)), λ z. h .interrupt ∙ g z);
     refusal = h .refusal;
   }

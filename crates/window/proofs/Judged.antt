@@ -19,12 +19,12 @@ use Rattle.stepping.specs.Call.{beginSaid, stepSaid, taskAt, beginOf, stepOf}
 use Rattle.window.specs.declared.Place.{Place}
 use Rattle.window.specs.declared.LineAnswer.the-variants as line
 use Rattle.window.specs.Window.{byteAt, statusAt, interruptAt, maskAt}
-use Rattle.window.specs.Serve.{windowSaid, Asked, askedIn, askedOf, WindowOutcome}
+use Rattle.window.specs.Serve.{windowSaid, Asked, askedIn, askedOf, WindowOutcome, made, windowOf}
 use Rattle.window.specs.Line.{lineIn, lineOf}
 use Rattle.window.specs.Events.{callBy}
-use Rattle.window.specs.Statement.{HasWindow, BeginsBy, StepsBy, LineSays, LineJudged, Judged}
+use Rattle.window.specs.Statement.{HasWindow, BeginsBy, StepsBy, NoneBy, LineSays, LineJudged, Judged}
 use Rattle.window.proofs.Commands as found
-use Rattle.window.proofs.Commands.{Placed, placed, Command, command}
+use Rattle.window.proofs.Commands.{Placed, placed, place-unfit, place-past, Command, command}
 use Rattle.window.proofs.Causes.{Own, begin-own, step-own}
 use Rattle.window.proofs.Cases.{Case, unfit, past, nothing, unknown, acknowledged, unacknowledged, begun, begin-refused, running, ended, step-refused, cases}
 
@@ -52,55 +52,37 @@ module _ (file cells : List ℕ) (row : List Task) (windows : List ℕ) (t : ℕ
   abbrev Unacknowledged : Type 0
   Unacknowledged = HasWindow windows (length row) t × (byteAt windows t 1 ≡ 1) × (statusAt windows t .done ≡ true)
 
-  -- What 18, 7 and 17 tell.
-  record Tells (out : WindowOutcome) : Type 0 where
+  -- What 18, 7 and 17 mean.
+  record Means (out : WindowOutcome) : Type 0 where
     eighteen : windowSaid (out .answer) .number ≡ 18 → Unfit
     seven : windowSaid (out .answer) .number ≡ 7 → Past
     seventeen : windowSaid (out .answer) .number ≡ 17 → Unacknowledged
 
-  -- Another number tells nothing.
-  other : (out : WindowOutcome) (k : ℕ) → windowSaid (out .answer) .number ≡ k → k < 13 → k ≢ 7 → Tells out
+  -- Another number means none of these.
+  other : (out : WindowOutcome) (k : ℕ) → windowSaid (out .answer) .number ≡ k → k < 13 → k ≢ 7 → Means out
   other out k e few seven = record { eighteen = λ z. absurd (omega (arith, e, z, few)); seven = λ z. absurd (seven (sym e ∙ z)); seventeen = λ z. absurd (omega (arith, e, z, few)) }
 
-  tells : {out : WindowOutcome} → Case file cells row windows t out → Tells out
-  tells (unfit h) = record { eighteen = λ _. inl h; seven = λ z. absurd (omega (arith, z)); seventeen = λ z. absurd (omega (arith, z)) }
-  tells (past e h) = record { eighteen = λ z. absurd (omega (arith, z)); seven = λ _. (e, h); seventeen = λ z. absurd (omega (arith, z)) }
-  tells (nothing h e) = other _ 0 refl (omega arith) (λ z. omega (arith, z))
-  tells (unknown h e) = record { eighteen = λ _. inr (h, e); seven = λ z. absurd (omega (arith, z)); seventeen = λ z. absurd (omega (arith, z)) }
-  tells (acknowledged h e) = other _ 0 refl (omega arith) (λ z. omega (arith, z))
-  tells (unacknowledged h e d) = record { eighteen = λ z. absurd (omega (arith, z)); seven = λ z. absurd (omega (arith, z)); seventeen = λ _. (h, e, d) }
-  tells (begun h e d a) = other _ 0 refl (omega arith) (λ z. omega (arith, z))
-  tells (begin-refused h e d c a) = let own = begin-number file row t (byteAt windows t 0) c (h .1) a in other _ (numberOf c) refl (own .0) (own .1)
-  tells (running h e a) = other _ 0 refl (omega arith) (λ z. omega (arith, z))
-  tells (ended h e r v k a) = other _ 0 refl (omega arith) (λ z. omega (arith, z))
-  tells (step-refused h e c a) = let own = step-number file cells row t c (h .1) a in other _ (numberOf c) refl (own .0) (own .1)
+  means : {out : WindowOutcome} → Case file cells row windows t out → Means out
+  means (unfit h) = record { eighteen = λ _. inl h; seven = λ z. absurd (omega (arith, z)); seventeen = λ z. absurd (omega (arith, z)) }
+  means (past e h) = record { eighteen = λ z. absurd (omega (arith, z)); seven = λ _. (e, h); seventeen = λ z. absurd (omega (arith, z)) }
+  means (nothing h e) = other _ 0 refl (omega arith) (λ z. omega (arith, z))
+  means (unknown h e) = record { eighteen = λ _. inr (h, e); seven = λ z. absurd (omega (arith, z)); seventeen = λ z. absurd (omega (arith, z)) }
+  means (acknowledged h e) = other _ 0 refl (omega arith) (λ z. omega (arith, z))
+  means (unacknowledged h e d) = record { eighteen = λ z. absurd (omega (arith, z)); seven = λ z. absurd (omega (arith, z)); seventeen = λ _. (h, e, d) }
+  means (begun h e d a) = other _ 0 refl (omega arith) (λ z. omega (arith, z))
+  means (begin-refused h e d c a) = let own = begin-number file row t (byteAt windows t 0) c (h .1) a in other _ (numberOf c) refl (own .0) (own .1)
+  means (running h e a) = other _ 0 refl (omega arith) (λ z. omega (arith, z))
+  means (ended h e r v k a) = other _ 0 refl (omega arith) (λ z. omega (arith, z))
+  means (step-refused h e c a) = let own = step-number file cells row t c (h .1) a in other _ (numberOf c) refl (own .0) (own .1)
 
-  -- And they are told.
-  told-unfit : {out : WindowOutcome} → Case file cells row windows t out → length windows ≢ 8 * length row → windowSaid (out .answer) ≡ refusedBy 18
-  told-unfit (unfit h) g = refl
-  told-unfit (past e h) g = absurd (g e)
-  told-unfit (nothing h e) g = absurd (g (h .0))
-  told-unfit (unknown h e) g = absurd (g (h .0))
-  told-unfit (acknowledged h e) g = absurd (g (h .0))
-  told-unfit (unacknowledged h e d) g = absurd (g (h .0))
-  told-unfit (begun h e d a) g = absurd (g (h .0))
-  told-unfit (begin-refused h e d c a) g = absurd (g (h .0))
-  told-unfit (running h e a) g = absurd (g (h .0))
-  told-unfit (ended h e r v k a) g = absurd (g (h .0))
-  told-unfit (step-refused h e c a) g = absurd (g (h .0))
+  -- And they are told: by the place, and by the command.
+  told-unfit : length windows ≢ 8 * length row → windowSaid (windowOf file cells row windows t .answer) ≡ refusedBy 18
+  unfolding windowOf askedOf
+  told-unfit h = ap (λ p. windowSaid (made file cells row windows t (askedIn windows t p) .answer)) (sym (place-unfit windows (length row) t h))
 
-  told-past : {out : WindowOutcome} → Case file cells row windows t out → Past → windowSaid (out .answer) ≡ refusedBy 7
-  told-past (unfit h) (e, g) = absurd (h e)
-  told-past (past e h) g = refl
-  told-past (nothing h e) (_, g) = absurd (omega (arith, h .1, g))
-  told-past (unknown h e) (_, g) = absurd (omega (arith, h .1, g))
-  told-past (acknowledged h e) (_, g) = absurd (omega (arith, h .1, g))
-  told-past (unacknowledged h e d) (_, g) = absurd (omega (arith, h .1, g))
-  told-past (begun h e d a) (_, g) = absurd (omega (arith, h .1, g))
-  told-past (begin-refused h e d c a) (_, g) = absurd (omega (arith, h .1, g))
-  told-past (running h e a) (_, g) = absurd (omega (arith, h .1, g))
-  told-past (ended h e r v k a) (_, g) = absurd (omega (arith, h .1, g))
-  told-past (step-refused h e c a) (_, g) = absurd (omega (arith, h .1, g))
+  told-past : Past → windowSaid (windowOf file cells row windows t .answer) ≡ refusedBy 7
+  unfolding windowOf askedOf
+  told-past (e, h) = ap (λ p. windowSaid (made file cells row windows t (askedIn windows t p) .answer)) (sym (place-past windows (length row) t e h))
 
   told-command : {out : WindowOutcome} → Case file cells row windows t out → HasWindow windows (length row) t → (k : ℕ) → byteAt windows t 1 ≡ k
       → (3 < k → windowSaid (out .answer) ≡ refusedBy 18) × (k ≡ 1 → statusAt windows t .done ≡ true → windowSaid (out .answer) ≡ refusedBy 17)
@@ -120,14 +102,14 @@ module _ (file cells : List ℕ) (row : List Task) (windows : List ℕ) (t : ℕ
   judged =
       let it = cases file cells row windows t in
       record {
-        unfit-or-unknown = ((λ e. tells it .eighteen (number-is e)), back it);
-        past = ((λ e. tells it .seven (number-is e)), told-past it);
-        unacknowledged = ((λ e. tells it .seventeen (number-is e)), λ (has, one, done). told-command it has 1 one .1 refl done);
+        unfit-or-unknown = ((λ e. means it .eighteen (number-is e)), back);
+        past = ((λ e. means it .seven (number-is e)), told-past);
+        unacknowledged = ((λ e. means it .seventeen (number-is e)), λ (has, one, done). told-command it has 1 one .1 refl done);
       }
     where
-      back : {out : WindowOutcome} → Case file cells row windows t out → Unfit → windowSaid (out .answer) ≡ refusedBy 18
-      back it (inl h) = told-unfit it h
-      back it (inr (has, high)) = told-command it has (byteAt windows t 1) refl .0 high
+      back : Unfit → windowSaid (windowOf file cells row windows t .answer) ≡ refusedBy 18
+      back (inl h) = told-unfit h
+      back (inr (has, high)) = told-command (cases file cells row windows t) has (byteAt windows t 1) refl .0 high
 
 -- ---- The direct call
 
@@ -149,6 +131,14 @@ module _ (windows : List ℕ) (n t : ℕ) where
   steps-by (found.acknowledges e) = ((λ z. never cc), λ z. absurd (omega (arith, e, z)))
   steps-by (found.unknown e) = ((λ z. never cc), λ z. absurd (omega (arith, e, z)))
 
+  none-by : {a : Asked} → Command windows t (byteAt windows t 1) a → (callBy t a ≡ []) ↔ ((byteAt windows t 1 ≢ 2) × (byteAt windows t 1 ≡ 1 → statusAt windows t .done ≡ true))
+  none-by (found.nothing e) = ((λ _. ((λ z. omega (arith, e, z)), λ z. absurd (omega (arith, e, z)))), λ _. refl)
+  none-by (found.begins e d) = ((λ z. never cc), λ (_, one). clash (one e) d)
+  none-by (found.unacknowledged e d) = ((λ _. ((λ z. omega (arith, e, z)), λ _. d)), λ _. refl)
+  none-by (found.steps e) = ((λ z. never cc), λ (two, _). absurd (two e))
+  none-by (found.acknowledges e) = ((λ _. ((λ z. omega (arith, e, z)), λ z. absurd (omega (arith, e, z)))), λ _. refl)
+  none-by (found.unknown e) = ((λ _. ((λ z. omega (arith, e, z)), λ z. absurd (omega (arith, e, z)))), λ _. refl)
+
   pub begin-made : BeginsBy windows n t
   unfolding askedOf
   begin-made o = by (placed windows n t)
@@ -166,6 +156,15 @@ module _ (windows : List ℕ) (n t : ℕ) where
       by (found.inside long below) = let (f, g) = steps-by (command windows t (byteAt windows t 1)) in ((λ z. ((long, below), f z)), λ (_, z). g z)
       by (found.past long above) = ((λ z. never cc), λ ((_, below), _). absurd (omega (arith, below, above)))
       by (found.unfit h) = ((λ z. never cc), λ ((long, _), _). absurd (h long))
+
+  pub none-made : NoneBy windows n t
+  unfolding askedOf
+  none-made = by (placed windows n t)
+    where
+      by : {p : Place} → Placed windows n t p → (callBy t (askedIn windows t p) ≡ []) ↔ (HasWindow windows n t → (byteAt windows t 1 ≢ 2) × (byteAt windows t 1 ≡ 1 → statusAt windows t .done ≡ true))
+      by (found.inside long below) = let (f, g) = none-by (command windows t (byteAt windows t 1)) in ((λ z _. f z), λ h. g (h (long, below)))
+      by (found.past long above) = ((λ _ has. absurd (omega (arith, has .1, above))), λ _. refl)
+      by (found.unfit h) = ((λ _ has. absurd (h (has .0))), λ _. refl)
 
   -- ---- The line
 

@@ -1,16 +1,15 @@
 -- The mask changes nothing else: a call on windows with another mask leaves and answers the same, but for that byte.
 use mathlib.Core.Path.{_≡_, refl, sym, ap, _∙_}
 use mathlib.Core.Logic.{_≢_}
-use mathlib.Core.Bool.{Bool, true, false, cond}
+use mathlib.Core.Bool.{Bool, cond}
 use mathlib.Core.List.{List}
-use Prim.Native.Nat.{ℕ, _+_, _*_, _%_, _≤_}
+use Prim.Native.Nat.{ℕ, _+_, _*_, _≤_}
 use native.Mathlib.Omega.{arith}
 use borrow.Author.Tests.{lt-ltb, ne-eqb}
 use lib.ListN.{length, set, length-set}
 use lib.Seq.{getD-set-other, set-comm}
 use Rattle.refusal.specs.declared.Refusal.{Refusal}
 use Rattle.refusal.specs.declared.Refusal.the-variants as cause
-use Rattle.refusal.specs.Number.{numberOf}
 use Rattle.records.specs.declared.record.Task.{Task}
 use Rattle.stepping.specs.declared.answer.BeginAnswer.{BeginAnswer}
 use Rattle.stepping.specs.declared.answer.BeginAnswer.the-variants as begin
@@ -20,18 +19,14 @@ use Rattle.stepping.specs.Call.{beginOf, stepOf}
 use Rattle.window.specs.declared.WindowAnswer.the-variants as window
 use Rattle.window.specs.declared.Place.{Place}
 use Rattle.window.specs.declared.Place.the-variants as place
-use Rattle.window.specs.Window.{byteAt, withByte, statusOf, statusByte, interruptByte, statusAt, placeOf}
-use Rattle.window.specs.Written.{refusedStatus, begunStatus, endedStatus, acknowledgedStatus, taken, refusedIn, begunIn, endedIn, acknowledgedIn, beginIn, stepIn}
+use Rattle.window.specs.Window.{byteAt, withByte, statusOf, statusAt, placeOf}
+use Rattle.window.specs.Written.{taken, refusedIn, begunIn, endedIn, acknowledgedIn, afterBegin, afterStep}
 use Rattle.window.specs.Serve.{Asked, Settled, Begins, Steps, refusedCommand, commanded, askedIn, askedOf, made, windowOf}
 use Rattle.window.specs.Statement.{MaskFree}
-use Rattle.window.proofs.Bytes.{Bytes, bytesAt, withBytes, taken-bytes, begun-bytes, refused-bytes, acknowledged-bytes, ended-bytes}
+use Rattle.window.proofs.Bytes.{Bytes, bytesAt, withBytes, takenBytes, begunBytes, refusedBytes, endedBytes, acknowledgedBytes, taken-bytes, begun-bytes, refused-bytes, acknowledged-bytes, ended-bytes}
 use Rattle.window.proofs.Commands.{Command, nothing, begins, unacknowledged, steps, acknowledges, unknown, command}
 
 module _ (windows : List ℕ) (u byte t : ℕ) where
-  -- The windows with another mask of task u.
-  abbrev masked : List ℕ → List ℕ
-  masked w = withByte w u 6 byte
-
   -- No byte of a window but 6 is a mask.
   apart : (k : ℕ) → k ≤ 5 → 8 * u + 6 ≢ 8 * t + k
   apart k h e = omega (arith, h, e)
@@ -74,29 +69,19 @@ module _ (windows : List ℕ) (u byte t : ℕ) where
       e (withByte windows u 6 byte) ∙ ap (λ b. withBytes (withByte windows u 6 byte) t (g b)) same-bytes ∙ either-order (g (bytesAt windows t)) ∙ ap (λ w. withByte w u 6 byte) (sym (e windows))
 
   refused-beside : (c : Refusal) → refusedIn (withByte windows u 6 byte) t c ≡ withByte (refusedIn windows t c) u 6 byte
-  refused-beside c = beside (λ w. refusedIn w t c)
-      (λ b. record { command = 0; status = statusByte (refusedStatus (statusOf (b .status))); response = b .response; refusal = numberOf c; interrupt = interruptByte true (b .interrupt) })
-      (λ w. refused-bytes w t c)
+  refused-beside c = beside (λ w. refusedIn w t c) (refusedBytes c) (λ w. refused-bytes w t c)
 
-  begin-beside : (a : BeginAnswer) → beginIn (withByte windows u 6 byte) t a ≡ withByte (beginIn windows t a) u 6 byte
-  begin-beside begin.Begun = beside (λ w. begunIn w t)
-      (λ b. record { command = 0; status = statusByte (begunStatus (statusOf (b .status))); response = b .response; refusal = b .refusal; interrupt = b .interrupt })
-      (λ w. begun-bytes w t)
+  begin-beside : (a : BeginAnswer) → afterBegin (withByte windows u 6 byte) t a ≡ withByte (afterBegin windows t a) u 6 byte
+  begin-beside begin.Begun = beside (λ w. begunIn w t) begunBytes (λ w. begun-bytes w t)
   begin-beside (begin.Refused c) = refused-beside c
 
-  step-beside : (a : StepAnswer) → stepIn (withByte windows u 6 byte) t a ≡ withByte (stepIn windows t a) u 6 byte
-  step-beside step.Running = beside (λ w. taken w t)
-      (λ b. record { command = 0; status = b .status; response = b .response; refusal = b .refusal; interrupt = b .interrupt })
-      (λ w. taken-bytes w t)
-  step-beside (step.Ended r v k) = beside (λ w. endedIn w t r v)
-      (λ b. record { command = 0; status = statusByte (endedStatus v (statusOf (b .status))); response = r % 256; refusal = b .refusal; interrupt = interruptByte true (b .interrupt) })
-      (λ w. ended-bytes w t r v)
+  step-beside : (a : StepAnswer) → afterStep (withByte windows u 6 byte) t a ≡ withByte (afterStep windows t a) u 6 byte
+  step-beside step.Running = beside (λ w. taken w t) takenBytes (λ w. taken-bytes w t)
+  step-beside (step.Ended r v k) = beside (λ w. endedIn w t r v) (endedBytes r v) (λ w. ended-bytes w t r v)
   step-beside (step.Refused c) = refused-beside c
 
   acknowledged-beside : acknowledgedIn (withByte windows u 6 byte) t ≡ withByte (acknowledgedIn windows t) u 6 byte
-  acknowledged-beside = beside (λ w. acknowledgedIn w t)
-      (λ b. record { command = 0; status = statusByte (acknowledgedStatus (statusOf (b .status))); response = b .response; refusal = b .refusal; interrupt = interruptByte false (b .interrupt) })
-      (λ w. acknowledged-bytes w t)
+  acknowledged-beside = beside (λ w. acknowledgedIn w t) acknowledgedBytes (λ w. acknowledged-bytes w t)
 
   -- ---- The call
 

@@ -12,15 +12,10 @@ use Rattle.laws.proofs.Lists.{from-the-end}
 use Rattle.laws.proofs.Clash.{never, clash}
 use Rattle.machine.specs.Outcome.{Outcome}
 use Rattle.machine.specs.Calls.{Event}
-use Rattle.machine.specs.History.{Pending, heard, pendingFrom}
 use Rattle.window.specs.Events.{WindowEvent, WindowStore, happen, after}
 use Rattle.window.specs.Console.{Note, Ending, Acknowledging, Other, Refusing, endedBy, lastEnded, noteOf, notesOf, Since, IsEnding, IsRefusing, numberBy, lastRefused}
 
 -- ---- One more at the end
-
-pub pending-more : (t : ℕ) (p : Pending) (es : List Event) (e : Event) → pendingFrom t p (es ++ (e ∷ [])) ≡ heard t (e .call) (e .answer) (pendingFrom t p es)
-pending-more t p [] e = refl
-pending-more t p (f ∷ es) e = pending-more t (heard t (f .call) (f .answer) p) es e
 
 pub ended-more : (t : ℕ) (r : Outcome) (es : List Event) (e : Event) → lastEnded t r (es ++ (e ∷ [])) ≡ endedBy t (e .call) (e .answer) (lastEnded t r es)
 ended-more t r [] e = refl

@@ -21,7 +21,7 @@ use Rattle.window.proofs.Cases.{Case, unfit, past, nothing, unknown, ac
 use Rattle.window.proofs.Left.{inside}
 use Rattle.window.proofs.Shown.{shows-taken, shows-begun, shows-refused, shows-ended}
 use Rattle.window.proofs.Answers.{begun-idle, accepted-pending, refused-idle, response-fits}
-use Rattle.window.proofs.Settled.{no-call}
+use Rattle.window.proofs.Judged.{none-made}
 use Rattle.window.proofs.Console.{lent, calls, answer-shown, row-long, Holds, begin-call, step-call}
 
 -- ---- Readings by the busy bit before and after
@@ -85,10 +85,10 @@ module _ {file : List ℕ} {n q : ℕ} {s : Store} (o : Opening file n q s) (win
       → callAt (Served t) (lent o windows t es) ≡ x ∷ [] → Reads x (out .windows)
   reading (unfit h) x e = absurd (h (holds .long ∙ ap (λ k. 8 * k) (sym (row-long o windows t es))))
   reading (past z h) x e = absurd (omega (arith, below, h, row-long o windows t es))
-  reading (nothing h z) x e = no-reading x _ (no-call (l .windows) (length (l .store .row)) t (λ y. omega (arith, z, y)) (λ y. absurd (omega (arith, z, y)))) e
-  reading (unknown h z) x e = no-reading x _ (no-call (l .windows) (length (l .store .row)) t (λ y. omega (arith, z, y)) (λ y. absurd (omega (arith, z, y)))) e
-  reading (acknowledged h z) x e = no-reading x _ (no-call (l .windows) (length (l .store .row)) t (λ y. omega (arith, z, y)) (λ y. absurd (omega (arith, z, y)))) e
-  reading (unacknowledged h z d) x e = no-reading x _ (no-call (l .windows) (length (l .store .row)) t (λ y. omega (arith, z, y)) (λ _. d)) e
+  reading (nothing h z) x e = no-reading x _ (none-made (l .windows) (length (l .store .row)) t .1 (λ _. ((λ y. omega (arith, z, y)), (λ y. absurd (omega (arith, z, y)))))) e
+  reading (unknown h z) x e = no-reading x _ (none-made (l .windows) (length (l .store .row)) t .1 (λ _. ((λ y. omega (arith, z, y)), (λ y. absurd (omega (arith, z, y)))))) e
+  reading (acknowledged h z) x e = no-reading x _ (none-made (l .windows) (length (l .store .row)) t .1 (λ _. ((λ y. omega (arith, z, y)), (λ y. absurd (omega (arith, z, y)))))) e
+  reading (unacknowledged h z d) x e = no-reading x _ (none-made (l .windows) (length (l .store .row)) t .1 (λ _. ((λ y. omega (arith, z, y)), (λ _. d)))) e
   reading (begun h z d a) x e =
       let y = Begin t (byteAt (l .windows) t 0) in
       let answer = sym (answer-shown o windows t es y) ∙ ap beginSaid a in

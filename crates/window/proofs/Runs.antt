@@ -4,7 +4,7 @@ use mathlib.Core.List.{List, [], _∷_, _++_, append-assoc}
 use Prim.Native.Nat.{ℕ}
 use lib.ListN.{length}
 use Rattle.laws.proofs.Clash.{never}
-use Rattle.machine.specs.Calls.{Call, Begin, Step}
+use Rattle.machine.specs.Calls.{Begin, Step}
 use Rattle.stepping.specs.declared.answer.BeginAnswer.{BeginAnswer}
 use Rattle.stepping.specs.declared.answer.BeginAnswer.the-variants as begin
 use Rattle.stepping.specs.declared.answer.StepAnswer.{StepAnswer}
@@ -13,14 +13,10 @@ use Rattle.stepping.specs.Call.{beginSaid, stepSaid, beginOf, stepOf}
 use Rattle.stepping.specs.Runs.{Store, serveOf, runOf}
 use Rattle.stepping.specs.Opening.{Opening}
 use Rattle.stepping.specs.Statement.{Demands}
+use Rattle.stepping.proofs.Continued.{run-append}
 use Rattle.window.specs.Serve.{windowSaid, Asked, Settled, Begins, Steps, askedOf, begunAnswer, steppedAnswer, made, windowOf}
 use Rattle.window.specs.Events.{WindowEvent, Written, Served, Direct, WindowStore, happen, after, callBy, callAt, callsOf}
-use Rattle.window.specs.Statement.{SameAsDirect, CallsGrow, saidOf, AnswersDirect, AlongWindows}
-
--- One list of calls after another.
-pub run-append : (file : List ℕ) (xs ys : List Call) (s : Store) → runOf file (xs ++ ys) s ≡ runOf file ys (runOf file xs s)
-run-append file [] ys s = refl
-run-append file (x ∷ xs) ys s = run-append file xs ys (serveOf file x s .store)
+use Rattle.window.specs.Statement.{SameAsDirect, ComeTo, CallsGrow, saidOf, AnswersDirect, AlongWindows}
 
 -- One event.
 happens : (file : List ℕ) (e : WindowEvent) (l : WindowStore) → happen file e l .store ≡ runOf file (callAt e l) (l .store)
@@ -33,6 +29,9 @@ happens file (Served t) l = by (askedOf (l .windows) (length (l .store .row)) t)
     by (Begins o) = refl
     by Steps = refl
 happens file (Direct x) l = refl
+
+pub events-come : (l : WindowStore) → ComeTo l
+events-come l = ((λ place byte. refl), λ x. refl)
 
 -- Theorem A.
 pub same-run : (file : List ℕ) (es : List WindowEvent) (l : WindowStore) → SameAsDirect file es l

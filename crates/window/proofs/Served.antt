@@ -12,7 +12,7 @@ use Rattle.records.specs.declared.record.Task.{Task}
 use Rattle.stepping.specs.Call.{beginOf, stepOf}
 use Rattle.window.specs.declared.WindowAnswer.{WindowAnswer}
 use Rattle.window.specs.declared.Place.{Place}
-use Rattle.window.specs.Written.{beginIn, stepIn}
+use Rattle.window.specs.Written.{afterBegin, afterStep}
 use Rattle.window.specs.Serve.{Asked, Settled, Begins, Steps, askedIn, askedOf, WindowOutcome, begunAnswer, steppedAnswer, made, windowOf}
 use Rattle.window.specs.Work.{workOf, settledAnswer, settledWindows, calledOf}
 use Rattle.window.proofs.Commands.{Placed, inside, past, unfit, placed}
@@ -62,11 +62,11 @@ module _ (file cells : List ℕ) (row : List Task) (windows : List ℕ) (t : ℕ
 
     -- By the number of the call.
     pub begun-said : call ≡ 1 → (row′ : List Task) (windows′ : List ℕ) (r : WindowAnswer)
-        → (row′ ≡ beginOf file row t o .row) × (windows′ ≡ beginIn windows t (beginOf file row t o .answer)) × (r ≡ begunAnswer (beginOf file row t o .answer))
+        → (row′ ≡ beginOf file row t o .row) × (windows′ ≡ afterBegin windows t (beginOf file row t o .answer)) × (r ≡ begunAnswer (beginOf file row t o .answer))
         → Left cells row′ windows′ r ≡ calledOf file cells row windows t call o
     begun-said one row′ windows′ r (ey, ew, er) = rw (ey, ew, er, one) refl
 
     pub stepped-said : call ≢ 1 → (cells′ : List ℕ) (row′ : List Task) (windows′ : List ℕ) (r : WindowAnswer)
-        → (cells′ ≡ stepOf file cells row t .cells) × (row′ ≡ stepOf file cells row t .row) × (windows′ ≡ stepIn windows t (stepOf file cells row t .answer)) × (r ≡ steppedAnswer (stepOf file cells row t .answer))
+        → (cells′ ≡ stepOf file cells row t .cells) × (row′ ≡ stepOf file cells row t .row) × (windows′ ≡ afterStep windows t (stepOf file cells row t .answer)) × (r ≡ steppedAnswer (stepOf file cells row t .answer))
         → Left cells′ row′ windows′ r ≡ calledOf file cells row windows t call o
     stepped-said other cells′ row′ windows′ r (ec, ey, ew, er) = rw (ec, ey, ew, er, ne-eqb call 1 other) refl

@@ -1,24 +1,18 @@
--- Calls of other tasks tell nothing of this one, a settled command makes no call, and how a served command is noted.
+-- Calls of other tasks tell nothing of this one, a window call makes one call at most, and how a served command is noted.
 use mathlib.Core.Path.{_≡_, refl}
 use mathlib.Core.Logic.{_↔_, _≢_, _⊎_, inl, inr}
-use mathlib.Core.Bool.{Bool, true, false, cond}
+use mathlib.Core.Bool.{Bool, true, false, _||_}
 use mathlib.Core.List.{List, [], _∷_}
 use Prim.Native.Nat.{ℕ}
 use borrow.Author.Tests.{ne-eqb}
-use Rattle.laws.proofs.Clash.{never, clash}
+use Rattle.laws.proofs.Clash.{never}
 use Rattle.machine.specs.Outcome.{Outcome}
 use Rattle.machine.specs.Calls.{Call, Begin, Step, Answer, Begun, Running, Ended, Refused, Event}
-use Rattle.machine.specs.History.{Pending, Nothing, Pends, longer, heard, pending}
+use Rattle.machine.specs.History.{Pending, Nothing, Pends, longer, heard}
 use Rattle.window.specs.declared.WindowAnswer.the-variants as window
-use Rattle.window.specs.declared.Place.{Place}
-use Rattle.window.specs.Window.{byteAt, statusAt}
-use Rattle.window.specs.Serve.{Asked, Settled, Begins, Steps, askedIn, askedOf}
-use Rattle.window.specs.Events.{Served, callBy}
+use Rattle.window.specs.Serve.{Asked, Settled, Begins, Steps}
+use Rattle.window.specs.Events.{callBy}
 use Rattle.window.specs.Console.{taskOf, isPending, endedBy, endingBy, noted}
-use Rattle.window.proofs.Commands as found
-use Rattle.window.proofs.Commands.{Placed, placed, Command, command}
-use Rattle.window.proofs.Cases.{unfit, past, nothing, unknown, unacknowledged}
-use Rattle.window.proofs.Left.{inside}
 
 -- ---- Calls of other tasks
 
@@ -44,24 +38,6 @@ pub longer-pending : (p : Pending) → isPending (longer p) ≡ isPending p
 longer-pending Nothing = refl
 longer-pending (Pends o s) = refl
 
--- A command that is settled by the windows alone makes no call.
-pub no-call : (windows : List ℕ) (n t : ℕ) → byteAt windows t 1 ≢ 2 → (byteAt windows t 1 ≡ 1 → statusAt windows t .done ≡ true) → callBy t (askedOf windows n t) ≡ []
-unfolding askedOf
-no-call windows n t two one = by (placed windows n t)
-  where
-    ordered : {a : Asked} → Command windows t (byteAt windows t 1) a → callBy t a ≡ []
-    ordered (found.nothing e) = refl
-    ordered (found.begins e d) = clash (one e) d
-    ordered (found.unacknowledged e d) = refl
-    ordered (found.steps e) = absurd (two e)
-    ordered (found.acknowledges e) = refl
-    ordered (found.unknown l) = refl
-
-    by : {p : Place} → Placed windows n t p → callBy t (askedIn windows t p) ≡ []
-    by (found.inside long below) = ordered (command windows t (byteAt windows t 1))
-    by (found.past long above) = refl
-    by (found.unfit h) = refl
-
 -- At most one call is made, and it is for the task.
 pub one-call : (t : ℕ) (a : Asked) → (callBy t a ≡ []) ⊎ ((x : Call) × (callBy t a ≡ x ∷ []) × (taskOf x ≡ t))
 one-call t (Settled answer left) = inl refl
@@ -72,18 +48,11 @@ one-call t Steps = inr (Step t, refl, refl)
 pub noted-served : (k : ℕ) (es : List Event) → k ≢ 3 → noted k window.Served es ≡ endingBy es
 noted-served k es h = simp (ne-eqb k 3 h)
 
--- Done or refused.
-abbrev pub either : Bool → Bool → Bool
-either a b = cond a true b
-
-pub either-true : (a : Bool) → true ≡ either a true
-either-true true = refl
-either-true false = refl
-
-pub either-read : (a b : Bool) → (either a b ≡ true) ↔ ((a ≡ true) ⊎ (b ≡ true))
-either-read true b = ((λ _. inl refl), λ _. refl)
-either-read false true = ((λ _. inr refl), λ _. refl)
-either-read false false = ((λ e. never cc), by)
+-- One of two bits.
+pub or-read : (a b : Bool) → ((a || b) ≡ true) ↔ ((a ≡ true) ⊎ (b ≡ true))
+or-read true b = ((λ _. inl refl), λ _. refl)
+or-read false true = ((λ _. inr refl), λ _. refl)
+or-read false false = ((λ e. never cc), by)
   where
     by : (false ≡ true) ⊎ (false ≡ true) → false ≡ true
     by (inl e) = e

@@ -1,5 +1,5 @@
 -- What the window shows after a call: the named bits and bytes, by the command and the answers.
-use mathlib.Core.Path.{_≡_, refl, sym, ap, subst, _∙_}
+use mathlib.Core.Path.{_≡_, refl, sym, ap, _∙_}
 use mathlib.Core.Bool.{Bool, true, false}
 use mathlib.Core.List.{List}
 use mathlib.Core.Logic.{_≢_, inl, inr}
@@ -55,39 +55,42 @@ module _ (windows : List ℕ) (t : ℕ) (within : 8 * t + 7 < length windows) wh
   s₀ = statusAt windows t
 
   pub shows-taken : Shows (taken windows t) t (statusAt windows t .busy) (statusAt windows t .done) (statusAt windows t .refused) (statusAt windows t .moved) (interruptAt windows t) (byteAt windows t 3) (byteAt windows t 4)
-  shows-taken = written (taken windows t) (takenBytes windows t) (taken-bytes windows t) s₀ refl (interruptAt windows t) refl
+  shows-taken = written (taken windows t) (takenBytes (bytesAt windows t)) (taken-bytes windows t) s₀ refl (interruptAt windows t) refl
 
   pub shows-begun : Shows (begunIn windows t) t true (statusAt windows t .done) (statusAt windows t .refused) (statusAt windows t .moved) (interruptAt windows t) (byteAt windows t 3) (byteAt windows t 4)
-  shows-begun = written (begunIn windows t) (begunBytes windows t) (begun-bytes windows t) (begunStatus s₀) (status-read (begunStatus s₀)) (interruptAt windows t) refl
+  shows-begun = written (begunIn windows t) (begunBytes (bytesAt windows t)) (begun-bytes windows t) (begunStatus s₀) (status-read (begunStatus s₀)) (interruptAt windows t) refl
 
   pub shows-refused : (c : Refusal) → Shows (refusedIn windows t c) t (statusAt windows t .busy) (statusAt windows t .done) true (statusAt windows t .moved) true (byteAt windows t 3) (numberOf c)
-  shows-refused c = written (refusedIn windows t c) (refusedBytes windows t c) (refused-bytes windows t c) (refusedStatus s₀) (status-read (refusedStatus s₀)) true (interrupt-read true (byteAt windows t 5) .0)
+  shows-refused c = written (refusedIn windows t c) (refusedBytes c (bytesAt windows t)) (refused-bytes windows t c) (refusedStatus s₀) (status-read (refusedStatus s₀)) true (interrupt-read true (byteAt windows t 5) .0)
 
   pub shows-ended : (r : ℕ) (v : Bool) → Shows (endedIn windows t r v) t false true (statusAt windows t .refused) v true (r % 256) (byteAt windows t 4)
-  shows-ended r v = written (endedIn windows t r v) (endedBytes windows t r v) (ended-bytes windows t r v) (endedStatus v s₀) (status-read (endedStatus v s₀)) true (interrupt-read true (byteAt windows t 5) .0)
+  shows-ended r v = written (endedIn windows t r v) (endedBytes r v (bytesAt windows t)) (ended-bytes windows t r v) (endedStatus v s₀) (status-read (endedStatus v s₀)) true (interrupt-read true (byteAt windows t 5) .0)
 
   pub shows-acknowledged : Shows (acknowledgedIn windows t) t (statusAt windows t .busy) false false (statusAt windows t .moved) false (byteAt windows t 3) (byteAt windows t 4)
-  shows-acknowledged = written (acknowledgedIn windows t) (acknowledgedBytes windows t) (acknowledged-bytes windows t) (acknowledgedStatus s₀) (status-read (acknowledgedStatus s₀)) false (interrupt-read false (byteAt windows t 5) .0)
+  shows-acknowledged = written (acknowledgedIn windows t) (acknowledgedBytes (bytesAt windows t)) (acknowledged-bytes windows t) (acknowledgedStatus s₀) (status-read (acknowledgedStatus s₀)) false (interrupt-read false (byteAt windows t 5) .0)
 
 module _ (file cells : List ℕ) (row : List Task) (windows : List ℕ) (t : ℕ) where
-  refuses-none : (c : Refusal) → (HasWindow windows (length row) t → ⊥) → RefusedWindow file cells row windows t c (still file cells row windows t windows (window.Refused c))
-  refuses-none c none = record { cells-left = refl; row-left = refl; no-window = λ _. refl; marked = λ has. absurd (none has) }
+  -- Without a window, and for a command.
+  refuses-none : (b c : Refusal) → (HasWindow windows (length row) t → ⊥) → RefusedWindow file cells row windows t c (still file cells row windows t windows (window.Refused b))
+  refuses-none b c none = record { cells-left = refl; row-left = refl; no-window = λ _. refl; marked = λ has. absurd (none has) }
 
-  refuses-command : (c : Refusal) → HasWindow windows (length row) t → RefusedWindow file cells row windows t c (still file cells row windows t (refusedIn windows t c) (window.Refused c))
-  refuses-command c has = record { cells-left = refl; row-left = refl; no-window = λ none. absurd (none has); marked = λ _. shows-refused windows t (inside windows (length row) t has) c }
+  refuses-command : (b c : Refusal) → HasWindow windows (length row) t → window.Refused b ≡ window.Refused c → RefusedWindow file cells row windows t c (still file cells row windows t (refusedIn windows t b) (window.Refused b))
+  refuses-command b c has e =
+      let same : b ≡ c = cc in
+      record { cells-left = refl; row-left = refl; no-window = λ none. absurd (none has); marked = λ _. rw (← same) (shows-refused windows t (inside windows (length row) t has) b) }
 
   refuses : {out : WindowOutcome} → Case file cells row windows t out → (c : Refusal) → out .answer ≡ window.Refused c → RefusedWindow file cells row windows t c out
-  refuses (unfit h) c e = let same : cause.Window ≡ c = cc in subst (λ (z : Refusal). RefusedWindow file cells row windows t z (still file cells row windows t windows (window.Refused cause.Window))) same (refuses-none cause.Window (λ has. h (has .0)))
-  refuses (past l h) c e = let same : cause.Task ≡ c = cc in subst (λ (z : Refusal). RefusedWindow file cells row windows t z (still file cells row windows t windows (window.Refused cause.Task))) same (refuses-none cause.Task (λ has. omega (arith, has .1, h)))
+  refuses (unfit h) c e = refuses-none cause.Window c (λ has. h (has .0))
+  refuses (past l h) c e = refuses-none cause.Task c (λ has. omega (arith, has .1, h))
   refuses (nothing h z) c e = never cc
-  refuses (unknown h z) c e = let same : cause.Window ≡ c = cc in subst (λ (z : Refusal). RefusedWindow file cells row windows t z (still file cells row windows t (refusedIn windows t cause.Window) (window.Refused cause.Window))) same (refuses-command cause.Window h)
+  refuses (unknown h z) c e = refuses-command cause.Window c h e
   refuses (acknowledged h z) c e = never cc
-  refuses (unacknowledged h z d) c e = let same : cause.Unacknowledged ≡ c = cc in subst (λ (z : Refusal). RefusedWindow file cells row windows t z (still file cells row windows t (refusedIn windows t cause.Unacknowledged) (window.Refused cause.Unacknowledged))) same (refuses-command cause.Unacknowledged h)
+  refuses (unacknowledged h z d) c e = refuses-command cause.Unacknowledged c h e
   refuses (begun h z d a) c e = never cc
-  refuses (begin-refused h z d b a) c e = let same : b ≡ c = cc in subst (λ (z : Refusal). RefusedWindow file cells row windows t z (still file cells row windows t (refusedIn windows t b) (window.Refused b))) same (refuses-command b h)
+  refuses (begin-refused h z d b a) c e = refuses-command b c h e
   refuses (running h z a) c e = never cc
   refuses (ended h z r v k a) c e = never cc
-  refuses (step-refused h z b a) c e = let same : b ≡ c = cc in subst (λ (z : Refusal). RefusedWindow file cells row windows t z (still file cells row windows t (refusedIn windows t b) (window.Refused b))) same (refuses-command b h)
+  refuses (step-refused h z b a) c e = refuses-command b c h e
 
   pub refused-leaves : RefusedLeaves file cells row windows t
   refused-leaves = refuses (cases file cells row windows t)

@@ -7,7 +7,7 @@ use Rattle.stepping.specs.Opening.{Opening}
 use Rattle.stepping.specs.Statement.{Demands}
 use Rattle.window.specs.Events.{WindowEvent, WindowStore}
 use Rattle.window.specs.Console.{Blank}
-use Rattle.window.specs.Statement.{BitsNamed, BeginsBy, StepsBy, LineJudged, Judged, SettledAlone, OthersStay, UnnamedStay, TakenOnce, RecordAlone, MaskFree, RefusedLeaves, ServedLeaves, SameAsDirect, CallsGrow, AnswersDirect, ServedOnce, AlongWindows, ReadsDirect, AlwaysTells}
+use Rattle.window.specs.Statement.{BitsNamed, BeginsBy, StepsBy, NoneBy, LineJudged, Judged, SettledAlone, OthersStay, UnnamedStay, TakenOnce, RecordAlone, MaskFree, RefusedLeaves, ServedLeaves, SameAsDirect, ComeTo, CallsGrow, AnswersDirect, ServedOnce, AlongWindows, ReadsDirect, AlwaysTells}
 use Rattle.window.proofs.Bytes as bytes
 use Rattle.window.proofs.Judged as judging
 use Rattle.window.proofs.Left as writing
@@ -18,7 +18,7 @@ use Rattle.window.proofs.Runs as runs
 use Rattle.window.proofs.Console.{holds, tells}
 use Rattle.window.proofs.Readings as readings
 
--- ---- The bits by their numbers
+-- ---- The bytes and the bits by their numbers
 
 pub bits-known : (windows : List ℕ) (t : ℕ) → BitsNamed windows t
 bits-known = bytes.bits-named
@@ -30,6 +30,9 @@ begin-asked = judging.begin-made
 
 pub step-asked : (windows : List ℕ) (n t : ℕ) → StepsBy windows n t
 step-asked = judging.step-made
+
+pub none-asked : (windows : List ℕ) (n t : ℕ) → NoneBy windows n t
+none-asked = judging.none-made
 
 pub line-known : (windows : List ℕ) (n t : ℕ) → LineJudged windows n t
 line-known = judging.line-judged
@@ -68,6 +71,9 @@ module _ (file cells : List ℕ) (row : List Task) (windows : List ℕ) (t : ℕ
 
 pub runs-with-windows : (file : List ℕ) (es : List WindowEvent) (l : WindowStore) → SameAsDirect file es l
 runs-with-windows = runs.same-run
+
+pub events-come : (l : WindowStore) → ComeTo l
+events-come = runs.events-come
 
 pub calls-grow : (file : List ℕ) (es fs : List WindowEvent) (l : WindowStore) → CallsGrow file es fs l
 calls-grow = runs.calls-grow

@@ -98,13 +98,14 @@ pub data Note : Type 0 where
   Ending Acknowledging Other : Note
   Refusing : (number : ℕ) → Note
 
--- A direct call that ends an operation, by its answer; and the one that a window call made, if it made one.
+-- By its answer, whether a direct call ends an operation.
 abbrev pub endingOf : Answer → Note
 endingOf Begun = Other
 endingOf Running = Other
 endingOf (Ended r k) = Ending
 endingOf (Refused k) = Other
 
+-- The same of the direct call that a window call made, if it made one.
 abbrev pub endingBy : List Event → Note
 endingBy [] = Other
 endingBy (e ∷ es) = endingOf (e .answer)

@@ -19,7 +19,7 @@ use Rattle.window.specs.declared.WindowAnswer.the-variants as window
 use Rattle.window.specs.declared.Place.{Place}
 use Rattle.window.specs.declared.Place.the-variants as place
 use Rattle.window.specs.Window.{byteAt, statusAt, placeOf}
-use Rattle.window.specs.Written.{refusedIn, acknowledgedIn, beginIn, stepIn}
+use Rattle.window.specs.Written.{refusedIn, acknowledgedIn, afterBegin, afterStep}
 
 -- What an answer says.
 abbrev pub windowSaid : WindowAnswer → Said
@@ -76,10 +76,10 @@ abbrev pub made : (file cells : List ℕ) → List Task → List ℕ → ℕ →
 made file cells row windows t (Settled answer left) = record { cells = cells; row = row; windows = left; answer = answer }
 made file cells row windows t (Begins operation) =
     let out = beginOf file row t operation in
-    record { cells = cells; row = out .row; windows = beginIn windows t (out .answer); answer = begunAnswer (out .answer) }
+    record { cells = cells; row = out .row; windows = afterBegin windows t (out .answer); answer = begunAnswer (out .answer) }
 made file cells row windows t Steps =
     let out = stepOf file cells row t in
-    record { cells = out .cells; row = out .row; windows = stepIn windows t (out .answer); answer = steppedAnswer (out .answer) }
+    record { cells = out .cells; row = out .row; windows = afterStep windows t (out .answer); answer = steppedAnswer (out .answer) }
 
 -- The call for task t of a row of n records.
 unfoldable pub windowOf : (file cells : List ℕ) → List Task → List ℕ → ℕ → WindowOutcome

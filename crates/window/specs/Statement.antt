@@ -22,13 +22,14 @@ use Rattle.window.specs.declared.LineAnswer.{LineAnswer}
 use Rattle.window.specs.Window.{byteAt, withByte, statusAt, interruptAt, maskAt}
 use Rattle.window.specs.Serve.{windowSaid, askedOf, WindowOutcome, windowOf}
 use Rattle.window.specs.Line.{lineOf, lineSaid}
-use Rattle.window.specs.Events.{WindowEvent, Served, WindowStore, opened, happen, after, callBy, callAt, callsOf}
+use Rattle.window.specs.Events.{WindowEvent, Written, Served, Direct, WindowStore, opened, happen, after, callBy, callAt, callsOf}
 use Rattle.window.specs.Console.{AllLeave, readingOf, withoutCount, isPending, lastEnded, notesOf, Since, IsEnding, IsRefusing, lastRefused}
 
--- ---- The bits by their numbers
+-- ---- The bytes and the bits by their numbers
 
--- In byte 2 busy weighs 1, done 2, refused 4 and moved 8; bit 0 of byte 5 is the interrupt, and bit 0 of byte 6 the mask.
+-- Byte k of the window of task t is byte 8 × t + k of all windows. In byte 2 busy weighs 1, done 2, refused 4 and moved 8; bit 0 of byte 5 is the interrupt, and bit 0 of byte 6 the mask.
 pub record BitsNamed (windows : List ℕ) (t : ℕ) : Type 0 where
+  pub byte : (k : ℕ) → byteAt windows t k ≡ getD windows (8 * t + k) 0
   pub busy : (statusAt windows t .busy ≡ true) ↔ (getD windows (8 * t + 2) 0 % 2 ≡ 1)
   pub done : (statusAt windows t .done ≡ true) ↔ (getD windows (8 * t + 2) 0 / 2 % 2 ≡ 1)
   pub refused : (statusAt windows t .refused ≡ true) ↔ (getD windows (8 * t + 2) 0 / 4 % 2 ≡ 1)
@@ -49,6 +50,10 @@ module _ (windows : List ℕ) (n t : ℕ) where
 
   abbrev pub StepsBy : Type 0
   StepsBy = (callBy t (askedOf windows n t) ≡ Step t ∷ []) ↔ (HasWindow × (byteAt windows t 1 ≡ 2))
+
+  -- No call is made exactly in all other cases.
+  abbrev pub NoneBy : Type 0
+  NoneBy = (callBy t (askedOf windows n t) ≡ []) ↔ (HasWindow → (byteAt windows t 1 ≢ 2) × (byteAt windows t 1 ≡ 1 → statusAt windows t .done ≡ true))
 
   -- The line's answer: 18, then 7; it is up exactly if bit 0 of byte 5 is 1 and bit 0 of byte 6 is 0.
   pub record LineSays (a : LineAnswer) : Type 0 where
@@ -92,16 +97,16 @@ module _ (file cells : List ℕ) (row : List Task) (windows : List ℕ) (t : ℕ
   TakenOnce = HasWindow windows (length row) t → byteAt (windowOf file cells row windows t .windows) t 1 ≡ 0
 
   -- No other record is looked at or written: with the same record of task t in a row of the same length everything else is the same.
-  pub record ByRecord (others : List Task) : Type 0 where
-    pub answer : windowOf file cells row windows t .answer ≡ windowOf file cells others windows t .answer
-    pub cells-same : windowOf file cells row windows t .cells ≡ windowOf file cells others windows t .cells
-    pub windows-same : windowOf file cells row windows t .windows ≡ windowOf file cells others windows t .windows
-    pub own : t < length row → taskAt (windowOf file cells row windows t .row) t ≡ taskAt (windowOf file cells others windows t .row) t
-    pub long : length (windowOf file cells row windows t .row) ≡ length row
-    pub rest : (j : ℕ) → j ≢ t → taskAt (windowOf file cells row windows t .row) j ≡ taskAt row j
+  pub record ByRecord (out other : WindowOutcome) : Type 0 where
+    pub answer : out .answer ≡ other .answer
+    pub cells-same : out .cells ≡ other .cells
+    pub windows-same : out .windows ≡ other .windows
+    pub own : t < length row → taskAt (out .row) t ≡ taskAt (other .row) t
+    pub long : length (out .row) ≡ length row
+    pub rest : (j : ℕ) → j ≢ t → taskAt (out .row) j ≡ taskAt row j
 
   abbrev pub RecordAlone : Type 0
-  RecordAlone = (others : List Task) → length row ≡ length others → taskAt row t ≡ taskAt others t → ByRecord others
+  RecordAlone = (others : List Task) → length row ≡ length others → taskAt row t ≡ taskAt others t → ByRecord (windowOf file cells row windows t) (windowOf file cells others windows t)
 
   -- No byte of a mask changes anything else: the call on windows with another mask differs in that byte alone.
   abbrev pub MaskFree : Type 0
@@ -151,6 +156,10 @@ module _ (file cells : List ℕ) (row : List Task) (windows : List ℕ) (t : ℕ
 -- For all windows, cells and rows: cells and row after any events are those of the direct calls that the events come to.
 abbrev pub SameAsDirect : List ℕ → List WindowEvent → WindowStore → Type 0
 SameAsDirect file es l = after file es l .store ≡ runOf file (callsOf file es l) (l .store)
+
+-- A byte that is written comes to no call, and a direct call to itself.
+abbrev pub ComeTo : WindowStore → Type 0
+ComeTo l = ((place byte : ℕ) → callAt (Written place byte) l ≡ []) × ((x : Call) → callAt (Direct x) l ≡ x ∷ [])
 
 -- More events only add calls at the end.
 abbrev pub CallsGrow : List ℕ → (es fs : List WindowEvent) → WindowStore → Type 0
@@ -206,5 +215,6 @@ module _ {file : List ℕ} {n q : ℕ} {s : Store} (o : Opening file n q s) (win
     -- Byte 4 is the number of the last refused command, 0 before.
     pub refusal : byteAt (after file es (opened s windows) .windows) t 4 ≡ lastRefused 0 (notesOf file t es (opened s windows))
 
+  -- It does so after all events that leave the window to its console.
   abbrev pub AlwaysTells : ℕ → Type 0
   AlwaysTells t = (es : List WindowEvent) → AllLeave t es → Tells t es

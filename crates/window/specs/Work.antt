@@ -15,7 +15,7 @@ workOf (Settled answer windows) = record { call = 0; operation = 0 }
 workOf (Begins operation) = record { call = 1; operation = operation }
 workOf Steps = record { call = 2; operation = 0 }
 
--- The answer and the windows, where no call is made.
+-- The answer and the windows, where no call is made; where one is, these are not looked at.
 abbrev pub settledAnswer : Asked → WindowAnswer
 settledAnswer (Settled answer windows) = answer
 settledAnswer (Begins operation) = window.Served

@@ -58,13 +58,15 @@ endedIn windows t response moved =
 abbrev pub acknowledgedIn : List ℕ → ℕ → List ℕ
 acknowledgedIn windows t = withByte (marked windows t (acknowledgedStatus (statusAt windows t))) t 5 (interruptByte false (byteAt windows t 5))
 
--- ---- The windows after a begin and after a step, by their answers
+-- ---- The windows after a begin and after a step
 
-abbrev pub beginIn : List ℕ → ℕ → BeginAnswer → List ℕ
-beginIn windows t begin.Begun = begunIn windows t
-beginIn windows t (begin.Refused c) = refusedIn windows t c
+-- By the answer of the begin.
+abbrev pub afterBegin : List ℕ → ℕ → BeginAnswer → List ℕ
+afterBegin windows t begin.Begun = begunIn windows t
+afterBegin windows t (begin.Refused c) = refusedIn windows t c
 
-abbrev pub stepIn : List ℕ → ℕ → StepAnswer → List ℕ
-stepIn windows t step.Running = taken windows t
-stepIn windows t (step.Ended response moved steps) = endedIn windows t response moved
-stepIn windows t (step.Refused c) = refusedIn windows t c
+-- By the answer of the step.
+abbrev pub afterStep : List ℕ → ℕ → StepAnswer → List ℕ
+afterStep windows t step.Running = taken windows t
+afterStep windows t (step.Ended response moved steps) = endedIn windows t response moved
+afterStep windows t (step.Refused c) = refusedIn windows t c

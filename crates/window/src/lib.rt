@@ -9,7 +9,7 @@ ghost use Prim.Native.Nat.{_+_, _*_, _<_};
 ghost use lib.ListN.{length};
 ghost use Rattle.stepping.specs.Call.{beginOf, stepOf};
 ghost use Rattle.window.specs.Window.{byteAt, statusAt, placeOf};
-ghost use Rattle.window.specs.Written.{beginIn, stepIn};
+ghost use Rattle.window.specs.Written.{afterBegin, afterStep};
 ghost use Rattle.window.specs.Serve.{commanded, askedOf, windowOf, begunAnswer, steppedAnswer};
 ghost use Rattle.window.specs.Work.{workOf, settledAnswer, settledWindows, calledOf};
 ghost use Rattle.window.specs.Line.{lineIn, lineOf};
@@ -150,7 +150,7 @@ fn settle(windows: &mut [u8], tasks: usize, task: usize) -> WindowAnswer
 // What is left in the window after a begin, and the answer.
 fn after_begin(windows: &mut [u8], task: usize, answer: BeginAnswer) -> WindowAnswer
     requires { ⌜ 8 * task + 7 < length (now windows) ⌝ }
-    ensures { λ r. ⌜ (now (windows .exit) ≡ beginIn (now (windows .entry)) task answer) × (r ≡ begunAnswer answer) ⌝ }
+    ensures { λ r. ⌜ (now (windows .exit) ≡ afterBegin (now (windows .entry)) task answer) × (r ≡ begunAnswer answer) ⌝ }
 {
     write::write_begin(windows, task, answer);
     match answer {
@@ -162,7 +162,7 @@ fn after_begin(windows: &mut [u8], task: usize, answer: BeginAnswer) -> WindowAn
 // What is left in the window after a step, and the answer.
 fn after_step(windows: &mut [u8], task: usize, answer: StepAnswer) -> WindowAnswer
     requires { ⌜ 8 * task + 7 < length (now windows) ⌝ }
-    ensures { λ r. ⌜ (now (windows .exit) ≡ stepIn (now (windows .entry)) task answer) × (r ≡ steppedAnswer answer) ⌝ }
+    ensures { λ r. ⌜ (now (windows .exit) ≡ afterStep (now (windows .entry)) task answer) × (r ≡ steppedAnswer answer) ⌝ }
 {
     write::write_step(windows, task, answer);
     match answer {
@@ -185,7 +185,7 @@ fn begin_by_window(
     operation: usize,
 ) -> WindowAnswer
     requires { ⌜ 8 * task + 7 < length (now windows) ⌝ }
-    ensures { λ r. ⌜ (now (row .exit) ≡ beginOf (now (file .entry)) (now (row .entry)) task operation .row) × (now (windows .exit) ≡ beginIn (now (windows .entry)) task (beginOf (now (file .entry)) (now (row .entry)) task operation .answer)) × (r ≡ begunAnswer (beginOf (now (file .entry)) (now (row .entry)) task operation .answer)) ⌝ }
+    ensures { λ r. ⌜ (now (row .exit) ≡ beginOf (now (file .entry)) (now (row .entry)) task operation .row) × (now (windows .exit) ≡ afterBegin (now (windows .entry)) task (beginOf (now (file .entry)) (now (row .entry)) task operation .answer)) × (r ≡ begunAnswer (beginOf (now (file .entry)) (now (row .entry)) task operation .answer)) ⌝ }
 {
     let answer = drive::begin(file, row, task, operation);
     after_begin(windows, task, answer)
@@ -200,7 +200,7 @@ fn step_by_window(
     task: usize,
 ) -> WindowAnswer
     requires { ⌜ 8 * task + 7 < length (now windows) ⌝ }
-    ensures { λ r. ⌜ (now (cells .exit) ≡ stepOf (now (file .entry)) (now (cells .entry)) (now (row .entry)) task .cells) × (now (row .exit) ≡ stepOf (now (file .entry)) (now (cells .entry)) (now (row .entry)) task .row) × (now (windows .exit) ≡ stepIn (now (windows .entry)) task (stepOf (now (file .entry)) (now (cells .entry)) (now (row .entry)) task .answer)) × (r ≡ steppedAnswer (stepOf (now (file .entry)) (now (cells .entry)) (now (row .entry)) task .answer)) ⌝ }
+    ensures { λ r. ⌜ (now (cells .exit) ≡ stepOf (now (file .entry)) (now (cells .entry)) (now (row .entry)) task .cells) × (now (row .exit) ≡ stepOf (now (file .entry)) (now (cells .entry)) (now (row .entry)) task .row) × (now (windows .exit) ≡ afterStep (now (windows .entry)) task (stepOf (now (file .entry)) (now (cells .entry)) (now (row .entry)) task .answer)) × (r ≡ steppedAnswer (stepOf (now (file .entry)) (now (cells .entry)) (now (row .entry)) task .answer)) ⌝ }
 {
     let answer = drive::step(file, cells, row, task);
     after_step(windows, task, answer)

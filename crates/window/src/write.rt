@@ -7,7 +7,7 @@ ghost use mathlib.Core.Path.{_≡_};
 ghost use Prim.Native.Nat.{_+_, _*_, _<_};
 ghost use lib.ListN.{length};
 ghost use Rattle.window.specs.Window.{byteAt, withByte};
-ghost use Rattle.window.specs.Written.{taken, refusedIn, begunIn, endedIn, acknowledgedIn, beginIn, stepIn};
+ghost use Rattle.window.specs.Written.{taken, refusedIn, begunIn, endedIn, acknowledgedIn, afterBegin, afterStep};
 
 // The bytes of a window that are read or written.
 pub(crate) const OPERATION: usize = 0;
@@ -102,7 +102,7 @@ pub(crate) fn write_acknowledged(windows: &mut [u8], task: usize)
 // A begin, by its answer.
 pub(crate) fn write_begin(windows: &mut [u8], task: usize, answer: BeginAnswer)
     requires { ⌜ 8 * task + 7 < length (now windows) ⌝ }
-    ensures { λ _. ⌜ now (windows .exit) ≡ beginIn (now (windows .entry)) task answer ⌝ }
+    ensures { λ _. ⌜ now (windows .exit) ≡ afterBegin (now (windows .entry)) task answer ⌝ }
 {
     match answer {
         BeginAnswer::Begun => write_begun(windows, task),
@@ -113,7 +113,7 @@ pub(crate) fn write_begin(windows: &mut [u8], task: usize, answer: BeginAnswer)
 // A step, by its answer.
 pub(crate) fn write_step(windows: &mut [u8], task: usize, answer: StepAnswer)
     requires { ⌜ 8 * task + 7 < length (now windows) ⌝ }
-    ensures { λ _. ⌜ now (windows .exit) ≡ stepIn (now (windows .entry)) task answer ⌝ }
+    ensures { λ _. ⌜ now (windows .exit) ≡ afterStep (now (windows .entry)) task answer ⌝ }
 {
     match answer {
         StepAnswer::Running => take(windows, task),

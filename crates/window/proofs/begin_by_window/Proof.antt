@@ -15,7 +15,7 @@ use Rattle.drive.proofs.begin.Symbol as called-def
 use Rattle.drive.proofs.begin.Symbol.{name as #drive·begin}
 use Rattle.drive.proofs.begin.Met as called-thm
 use Rattle.window.specs.declared.WindowAnswer.{WindowAnswer}
-use Rattle.window.specs.Written.{beginIn}
+use Rattle.window.specs.Written.{afterBegin}
 use Rattle.window.specs.Serve.{begunAnswer}
 use Rattle.window.proofs.WindowAnswer as R
 use Rattle.window.proofs.WindowAnswer.Laws as R′
@@ -33,10 +33,10 @@ params = (shared-slice 0 tt u8, (given-slice 1 tt T.the-row, (given-slice 2 tt u
 
 -- what the contract says at exit, from what the two calls say
 begun-said : (file : List ℕ) (row : List Task) (windows : List ℕ) (t o : ℕ) (row′ : List Task) (windows′ : List ℕ) (b : BeginAnswer) (r : WindowAnswer)
-    → BeginSaid file row t o row′ b → (windows′ ≡ beginIn windows t b) × (r ≡ begunAnswer b)
-    → (row′ ≡ beginOf file row t o .row) × (windows′ ≡ beginIn windows t (beginOf file row t o .answer)) × (r ≡ begunAnswer (beginOf file row t o .answer))
+    → BeginSaid file row t o row′ b → (windows′ ≡ afterBegin windows t b) × (r ≡ begunAnswer b)
+    → (row′ ≡ beginOf file row t o .row) × (windows′ ≡ afterBegin windows t (beginOf file row t o .answer)) × (r ≡ begunAnswer (beginOf file row t o .answer))
 begun-said file row windows t o row′ windows′ b r e (ew, er) =
-    (ap (λ (out : BeginOutcome). out .row) e, ew ∙ ap (λ (out : BeginOutcome). beginIn windows t (out .answer)) e, er ∙ ap (λ (out : BeginOutcome). begunAnswer (out .answer)) e)
+    (ap (λ (out : BeginOutcome). out .row) e, ew ∙ ap (λ (out : BeginOutcome). afterBegin windows t (out .answer)) e, er ∙ ap (λ (out : BeginOutcome). begunAnswer (out .answer)) e)
 
 module _ {M : Type 1} (𝓤 : URA M) (H : Heap 𝓤) (A : Atoms 𝓤) (at-mem : Memory → SProp 𝓤) (run : Routine → Fun 𝓤) where
   -- the contracts that the walk cites
@@ -85,7 +85,7 @@ module _ {M : Type 1} (𝓤 : URA M) (H : Heap 𝓤) (A : Atoms 𝓤) (at-mem : 
         counted W (a .1 .1 .1 .0) gt $ move ! (7 ∷ []) $ tokens-together W 1 (κs .1 .1 .0, tt) (qs .1 .1 .0, tt) $ move ! (0 ∷ 31 ∷ 1 ∷ 2 ∷ []) $ hands 𝓤 H A W after.signature (after.spec 𝓤 H A at-mem run) (told b v) (factI 𝓤 _ (emp 𝓤) within) $
         calls-at ! fm After known-a (told b v) (and-then ! (held ! 6 refl) (and-then ! (held ! 18 refl) (and-then ! (held ! 14 refl) (no-more !)))) (λ v′.
         -- what comes back from it
-        returned after.signature W (list-back 0 tt u8, (number .comes, (silent N.the-row (λ x w. refl), tt))) (after.clauses 𝓤 H A at-mem run) (told b v) v′ (λ r ws. (ws .0 ≡ beginIn (a .1 .1 .0 .now) (a .1 .1 .1 .0) b) × (r ≡ begunAnswer b)) (λ r ws. id⊢ 𝓤 _) ! tt (λ r ws er kn′.
+        returned after.signature W (list-back 0 tt u8, (number .comes, (silent N.the-row (λ x w. refl), tt))) (after.clauses 𝓤 H A at-mem run) (told b v) v′ (λ r ws. (ws .0 ≡ afterBegin (a .1 .1 .0 .now) (a .1 .1 .1 .0) b) × (r ≡ begunAnswer b)) (λ r ws. id⊢ 𝓤 _) ! tt (λ r ws er kn′.
         move ! (4 ∷ []) $ peeks ! R.the-row (Is R.the-row) (shows 𝓤 H A R.the-row) r (v′ ∷ []) (λ ir. land ! (from ! (stop !)) (init ! 30 refl (enum-lawful R.the-type R′.the-laws 𝓤 H A W tt .typed r _ ir .0)) $
         -- return: the locals are freed
         returns ! (look ! 30 refl) $ move ! (down 30 11) $ frees-locals ! 11 refl $ move ! (4 ∷ []) $ tokens-apart W 1 (κs .1 .1 .0, tt) (qs .1 .1 .0, tt) $ move ! (9 ∷ []) $ tokens-apart W 2 κs₀ qs₀ $ tokens-together W 3 κs qs $ keep ! (0 ∷ 9 ∷ 7 ∷ 4 ∷ 10 ∷ 11 ∷ 1 ∷ []) $

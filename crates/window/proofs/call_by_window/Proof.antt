@@ -6,7 +6,7 @@ use Rattle.walks.proofs.Locals.{held, lends-on, down, frees-locals, goes-on}
 use lib.Dec.{eqb→eq}
 use Rattle.records.proofs.record.Task as T
 use Rattle.stepping.specs.Call.{beginOf, stepOf}
-use Rattle.window.specs.Written.{beginIn, stepIn}
+use Rattle.window.specs.Written.{afterBegin, afterStep}
 use Rattle.window.specs.Serve.{begunAnswer, steppedAnswer}
 use Rattle.window.proofs.Served.{tested-apart, begun-said, stepped-said}
 use Rattle.window.proofs.WindowAnswer as R
@@ -85,7 +85,7 @@ module _ {M : Type 1} (𝓤 : URA M) (H : Heap 𝓤) (A : Atoms 𝓤) (at-mem : 
         move ! (40 ∷ []) $ tokens-apart W 4 κs qs $ counted W t gt $ counted W o go $ move ! (2 ∷ 4 ∷ 5 ∷ []) $ tokens-together W 3 κs₀ qs₀ $ move ! (0 ∷ 42 ∷ 45 ∷ 46 ∷ 2 ∷ 1 ∷ []) $ hands 𝓤 H A W begins.signature (begins.spec 𝓤 H A at-mem run) begun (factI 𝓤 _ (emp 𝓤) within) $
         calls-at ! fm Begins known-b begun (and-then ! (held ! 36 refl) (and-then ! (held ! 18 refl) (and-then ! (held ! 14 refl) (and-then ! (held ! 28 refl) (and-then ! (held ! 24 refl) (no-more !)))))) (λ v.
         -- what comes back from it
-        returned begins.signature W (shared-slice 0 tt u8 .comes, (list-back 1 tt T.the-row, (list-back 2 tt u8, (number .comes, (number .comes, tt))))) (begins.clauses 𝓤 H A at-mem run) begun v (λ r zs. (zs .1 .0 ≡ beginOf (a .0 .now) (a .1 .1 .0 .now) t o .row) × (zs .1 .1 .0 ≡ beginIn (a .1 .1 .1 .0 .now) t (beginOf (a .0 .now) (a .1 .1 .0 .now) t o .answer)) × (r ≡ begunAnswer (beginOf (a .0 .now) (a .1 .1 .0 .now) t o .answer))) (λ r zs. id⊢ 𝓤 _) ! tt (λ r zs er kn.
+        returned begins.signature W (shared-slice 0 tt u8 .comes, (list-back 1 tt T.the-row, (list-back 2 tt u8, (number .comes, (number .comes, tt))))) (begins.clauses 𝓤 H A at-mem run) begun v (λ r zs. (zs .1 .0 ≡ beginOf (a .0 .now) (a .1 .1 .0 .now) t o .row) × (zs .1 .1 .0 ≡ afterBegin (a .1 .1 .1 .0 .now) t (beginOf (a .0 .now) (a .1 .1 .0 .now) t o .answer)) × (r ≡ begunAnswer (beginOf (a .0 .now) (a .1 .1 .0 .now) t o .answer))) (λ r zs. id⊢ 𝓤 _) ! tt (λ r zs er kn.
         move ! (6 ∷ []) $ peeks ! R.the-row (Is R.the-row) (shows 𝓤 H A R.the-row) r (v ∷ []) (λ ir. land ! (from ! (stop !)) (init ! 44 refl (enum-lawful R.the-type R′.the-laws 𝓤 H A W tt .typed r _ ir .0)) $
         -- return: the locals are freed
         returns-within ! Post refl (look ! 44 refl) $ move ! (down 44 19) $ frees-locals ! 19 refl $ move ! (9 ∷ []) $ unused W 1 (κs .1 .0) u64 (a .1 .0) $
@@ -102,7 +102,7 @@ module _ {M : Type 1} (𝓤 : URA M) (H : Heap 𝓤) (A : Atoms 𝓤) (at-mem : 
         counted W t gt $ move ! (41 ∷ 39 ∷ 42 ∷ 43 ∷ 44 ∷ 0 ∷ []) $ hands 𝓤 H A W steps.signature (steps.spec 𝓤 H A at-mem run) stepped (factI 𝓤 _ (emp 𝓤) within) $
         calls-at ! fm Steps known-s stepped (and-then ! (held ! 35 refl) (and-then ! (held ! 9 refl) (and-then ! (held ! 5 refl) (and-then ! (held ! 1 refl) (and-then ! (held ! 27 refl) (no-more !)))))) (λ v.
         -- what comes back from it
-        returned steps.signature W (shared-slice 0 tt u8 .comes, (list-back 1 tt u64, (list-back 2 tt T.the-row, (list-back 3 tt u8, (number .comes, tt))))) (steps.clauses 𝓤 H A at-mem run) stepped v (λ r zs. (zs .1 .0 ≡ stepOf (a .0 .now) (a .1 .0 .now) (a .1 .1 .0 .now) t .cells) × (zs .1 .1 .0 ≡ stepOf (a .0 .now) (a .1 .0 .now) (a .1 .1 .0 .now) t .row) × (zs .1 .1 .1 .0 ≡ stepIn (a .1 .1 .1 .0 .now) t (stepOf (a .0 .now) (a .1 .0 .now) (a .1 .1 .0 .now) t .answer)) × (r ≡ steppedAnswer (stepOf (a .0 .now) (a .1 .0 .now) (a .1 .1 .0 .now) t .answer))) (λ r zs. id⊢ 𝓤 _) ! tt (λ r zs er kn.
+        returned steps.signature W (shared-slice 0 tt u8 .comes, (list-back 1 tt u64, (list-back 2 tt T.the-row, (list-back 3 tt u8, (number .comes, tt))))) (steps.clauses 𝓤 H A at-mem run) stepped v (λ r zs. (zs .1 .0 ≡ stepOf (a .0 .now) (a .1 .0 .now) (a .1 .1 .0 .now) t .cells) × (zs .1 .1 .0 ≡ stepOf (a .0 .now) (a .1 .0 .now) (a .1 .1 .0 .now) t .row) × (zs .1 .1 .1 .0 ≡ afterStep (a .1 .1 .1 .0 .now) t (stepOf (a .0 .now) (a .1 .0 .now) (a .1 .1 .0 .now) t .answer)) × (r ≡ steppedAnswer (stepOf (a .0 .now) (a .1 .0 .now) (a .1 .1 .0 .now) t .answer))) (λ r zs. id⊢ 𝓤 _) ! tt (λ r zs er kn.
         move ! (6 ∷ []) $ peeks ! R.the-row (Is R.the-row) (shows 𝓤 H A R.the-row) r (v ∷ []) (λ ir. land ! (from ! (stop !)) (init ! 43 refl (enum-lawful R.the-type R′.the-laws 𝓤 H A W tt .typed r _ ir .0)) $
         -- return: the locals are freed
         returns ! (look ! 43 refl) $ move ! (down 43 19) $ frees-locals ! 19 refl $ keep ! (6 ∷ 7 ∷ 4 ∷ 3 ∷ 2 ∷ 8 ∷ 9 ∷ 10 ∷ 0 ∷ []) $

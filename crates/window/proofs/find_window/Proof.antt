@@ -2,7 +2,6 @@
 use Prim.Native.Nat.{_*_, _<_}
 use native.Mathlib.Omega.{arith}
 use lib.ListN.{length}
-use Prim.Native.Nat.{_*_}
 use mathlib.Core.Path.{_≡_}
 use Rattle.laws.proofs.Clash.{never}
 use Rattle.window.proofs.Commands.{place-unfit, place-past, place-inside}

@@ -1,6 +1,6 @@
 -- The line at the place that was found.
 use Rattle.window.proofs.Commands.{line-at}
-use mathlib.Core.Path.{sym, ap, _∙_}
+use mathlib.Core.Path.{_∙_}
 use borrow.Author.Needs.{needs}
 use Rattle.window.proofs.line.Statement.{statement}
 use Rattle.window.proofs.line.Tie as tie

@@ -15,7 +15,7 @@ use Rattle.drive.proofs.step.Symbol as called-def
 use Rattle.drive.proofs.step.Symbol.{name as #drive·step}
 use Rattle.drive.proofs.step.Met as called-thm
 use Rattle.window.specs.declared.WindowAnswer.{WindowAnswer}
-use Rattle.window.specs.Written.{stepIn}
+use Rattle.window.specs.Written.{afterStep}
 use Rattle.window.specs.Serve.{steppedAnswer}
 use Rattle.window.proofs.WindowAnswer as R
 use Rattle.window.proofs.WindowAnswer.Laws as R′
@@ -33,10 +33,10 @@ params = (shared-slice 0 tt u8, (given-slice 1 tt u64, (given-slice 2 tt T.the-r
 
 -- what the contract says at exit, from what the two calls say
 stepped-said : (file cells : List ℕ) (row : List Task) (windows : List ℕ) (t : ℕ) (cells′ : List ℕ) (row′ : List Task) (windows′ : List ℕ) (b : StepAnswer) (r : WindowAnswer)
-    → StepSaid file cells row t cells′ row′ b → (windows′ ≡ stepIn windows t b) × (r ≡ steppedAnswer b)
-    → (cells′ ≡ stepOf file cells row t .cells) × (row′ ≡ stepOf file cells row t .row) × (windows′ ≡ stepIn windows t (stepOf file cells row t .answer)) × (r ≡ steppedAnswer (stepOf file cells row t .answer))
+    → StepSaid file cells row t cells′ row′ b → (windows′ ≡ afterStep windows t b) × (r ≡ steppedAnswer b)
+    → (cells′ ≡ stepOf file cells row t .cells) × (row′ ≡ stepOf file cells row t .row) × (windows′ ≡ afterStep windows t (stepOf file cells row t .answer)) × (r ≡ steppedAnswer (stepOf file cells row t .answer))
 stepped-said file cells row windows t cells′ row′ windows′ b r e (ew, er) =
-    (ap (λ (out : StepOutcome). out .cells) e, ap (λ (out : StepOutcome). out .row) e, ew ∙ ap (λ (out : StepOutcome). stepIn windows t (out .answer)) e, er ∙ ap (λ (out : StepOutcome). steppedAnswer (out .answer)) e)
+    (ap (λ (out : StepOutcome). out .cells) e, ap (λ (out : StepOutcome). out .row) e, ew ∙ ap (λ (out : StepOutcome). afterStep windows t (out .answer)) e, er ∙ ap (λ (out : StepOutcome). steppedAnswer (out .answer)) e)
 
 module _ {M : Type 1} (𝓤 : URA M) (H : Heap 𝓤) (A : Atoms 𝓤) (at-mem : Memory → SProp 𝓤) (run : Routine → Fun 𝓤) where
   -- the contracts that the walk cites
@@ -86,7 +86,7 @@ module _ {M : Type 1} (𝓤 : URA M) (H : Heap 𝓤) (A : Atoms 𝓤) (at-mem : 
         counted W (a .1 .1 .1 .1 .0) gt $ move ! (7 ∷ []) $ tokens-together W 1 (κs .1 .1 .1 .0, tt) (qs .1 .1 .1 .0, tt) $ move ! (0 ∷ 35 ∷ 1 ∷ 2 ∷ []) $ hands 𝓤 H A W after.signature (after.spec 𝓤 H A at-mem run) (told b v) (factI 𝓤 _ (emp 𝓤) within) $
         calls-at ! fm After known-a (told b v) (and-then ! (held ! 6 refl) (and-then ! (held ! 20 refl) (and-then ! (held ! 18 refl) (no-more !)))) (λ v′.
         -- what comes back from it
-        returned after.signature W (list-back 0 tt u8, (number .comes, (silent N.the-row (λ x w. refl), tt))) (after.clauses 𝓤 H A at-mem run) (told b v) v′ (λ r ws. (ws .0 ≡ stepIn (a .1 .1 .1 .0 .now) (a .1 .1 .1 .1 .0) b) × (r ≡ steppedAnswer b)) (λ r ws. id⊢ 𝓤 _) ! tt (λ r ws er kn′.
+        returned after.signature W (list-back 0 tt u8, (number .comes, (silent N.the-row (λ x w. refl), tt))) (after.clauses 𝓤 H A at-mem run) (told b v) v′ (λ r ws. (ws .0 ≡ afterStep (a .1 .1 .1 .0 .now) (a .1 .1 .1 .1 .0) b) × (r ≡ steppedAnswer b)) (λ r ws. id⊢ 𝓤 _) ! tt (λ r ws er kn′.
         move ! (4 ∷ []) $ peeks ! R.the-row (Is R.the-row) (shows 𝓤 H A R.the-row) r (v′ ∷ []) (λ ir. land ! (from ! (stop !)) (init ! 34 refl (enum-lawful R.the-type R′.the-laws 𝓤 H A W tt .typed r _ ir .0)) $
         -- return: the locals are freed
         returns ! (look ! 34 refl) $ move ! (down 34 13) $ frees-locals ! 13 refl $ move ! (4 ∷ []) $ tokens-apart W 1 (κs .1 .1 .1 .0, tt) (qs .1 .1 .1 .0, tt) $ move ! (9 ∷ []) $ tokens-apart W 3 κs₀ qs₀ $ tokens-together W 4 κs qs $ keep ! (0 ∷ 9 ∷ 7 ∷ 6 ∷ 4 ∷ 10 ∷ 1 ∷ []) $
