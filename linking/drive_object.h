@@ -186,7 +186,7 @@ uint64_t drive_step_record(const uint8_t *file, size_t file_length, uint64_t *ce
  *  - a step that ended the operation: busy 0, done 1, moved 0 or 1, the low byte of the response, interrupt 1;
  *  - an acknowledge: done 0, refused 0, interrupt 0;
  *  - a refused command: refused 1, its number in byte 4, interrupt 1; no cell and no record.
- * Answers nothing but the refusal. Its cost is that of the call that it makes.
+ * Answers nothing but the refusal. Its cost is little more than that of the call that it makes.
  *
  * A console whose window is all 0 at the start of the run, and that writes only bytes 0, 1 and 6 of it, nobody else
  * writing there or calling for its task, reads in it what drive_begin and drive_step in the same places would answer,

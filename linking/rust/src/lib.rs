@@ -191,7 +191,7 @@ pub fn step_record(
 /// - an acknowledge: done 0, refused 0, interrupt 0;
 /// - a refused command: refused 1, its number in byte 4, interrupt 1; no cell and no record.
 ///
-/// Its cost is that of the call that it makes.
+/// Its cost is little more than that of the call that it makes.
 ///
 /// A console whose window is all 0 at the start of the run, and that writes only bytes 0, 1 and 6 of it, nobody else writing
 /// there or calling for its task, reads in it what [`begin`] and [`step`] in the same places would answer, but for the count
