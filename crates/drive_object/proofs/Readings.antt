@@ -8,7 +8,7 @@ use native.Mathlib.Omega.{arith}
 use Rattle.laws.specs.Bit.{bit}
 use Rattle.refusal.specs.Number.{numberOf, Said}
 use Rattle.refusal.specs.declared.Refusal.{Refusal}
-use Rattle.refusal.specs.declared.Refusal.the-variants.{File, Dimensions, Length, NextState, Row, Cells, Task, Operation, Pending, Idle, Record, Cell, Line, Rings, Chainage, Room, Unacknowledged, Window}
+use Rattle.refusal.specs.declared.Refusal.the-variants.{File, Dimensions, Length, NextState, Row, Cells, Task, Operation, Pending, Idle, Record, Cell, Line, Rings, Chainage, Room, Unacknowledged, Window, Question}
 use Rattle.cells.specs.Ceiling.{ceilingOf, ceilingSaid}
 use Rattle.cells.specs.declared.ceiling.Ceiling.{Ceiling}
 use Rattle.cells.specs.declared.ceiling.Ceiling.the-variants as ceiling
@@ -37,7 +37,11 @@ use Rattle.ring_desk.specs.Owner.{ownerOf, ownerSaid}
 use Rattle.ring_desk.proofs.Answers.{owner-answered}
 use Rattle.ring_desk.specs.declared.OwnerAnswer.{OwnerAnswer}
 use Rattle.ring_desk.specs.declared.OwnerAnswer.the-variants as owner
-use Rattle.drive_object.specs.Word.{wordOf, endedFlags, refusalIn, flagsIn, endedIn, movedIn, lowIn, highIn, valueAt, refusedWord, checkWord, startWord, answerWord, ceilingWord, windowWord, lineWord, ownerWord, writtenWord}
+use Rattle.game.specs.declared.ForceAnswer.{ForceAnswer}
+use Rattle.game.specs.declared.ForceAnswer.the-variants as force
+use Rattle.game.specs.Force.{forceOf, forceSaid, isReached}
+use Rattle.game.proofs.Theorem.{operation-below}
+use Rattle.drive_object.specs.Word.{wordOf, endedFlags, refusalIn, flagsIn, endedIn, movedIn, yesIn, noMoveIn, lowIn, highIn, valueAt, refusedWord, checkWord, startWord, answerWord, ceilingWord, windowWord, lineWord, ownerWord, writtenWord, forceWord}
 
 -- The four parts of a word, each as wide as its bytes.
 pub parts-read : (c f l h : ℕ) → c < 256 → f < 256 → l < 65536
@@ -69,6 +73,7 @@ number-fits Chainage = omega arith
 number-fits Room = omega arith
 number-fits Unacknowledged = omega arith
 number-fits Window = omega arith
+number-fits Question = omega arith
 
 -- A refused call shows the number of its cause, no flag, for it is no operation that has ended, and no value.
 pub refused-read : (c : Refusal) → let w = refusedWord c in (refusalIn w ≡ numberOf c) × (flagsIn w ≡ 0) × (lowIn w ≡ 0) × (highIn w ≡ 0)
@@ -127,6 +132,22 @@ pub written-read : (a : Written) → let w = writtenWord a in
     (refusalIn w ≡ writtenSaid a .number) × (flagsIn w ≡ 0) × (lowIn w ≡ 0) × (highIn w ≡ valueAt (writtenSaid a) 0)
 written-read (written.Length k) = parts-read 0 0 0 k (omega arith) (omega arith) (omega arith)
 written-read (written.Refused c) = refused-read c
+
+-- Who can force it shows its number, whether it is a yes, whether no move is needed for it, and the operation.
+force-read : (a : ForceAnswer) → valueAt (forceSaid a) 1 < 65536 → let w = forceWord a in
+    (refusalIn w ≡ forceSaid a .number) × (yesIn w ≡ valueAt (forceSaid a) 0) × (noMoveIn w ≡ bit (isReached a)) × (flagsIn w < 4) × (lowIn w ≡ valueAt (forceSaid a) 1) × (highIn w ≡ 0)
+force-read force.Reached h = (refl, refl, refl, omega arith, refl, refl)
+force-read (force.Wins o) h =
+    let (number, flags, low, high) = parts-read 0 1 o 0 (omega arith) (omega arith) h in
+    (number, ap (λ f. f % 2) flags, ap (λ f. f / 2 % 2) flags, omega (arith, flags), low, high)
+force-read force.Loses h = (refl, refl, refl, omega arith, refl, refl)
+force-read (force.Refused c) h =
+    let (number, flags, low, high) = refused-read c in
+    (number, ap (λ f. f % 2) flags, ap (λ f. f / 2 % 2) flags, omega (arith, flags), low, high)
+
+pub drive-force-read : (file : List ℕ) (state : ℕ) (targets : List ℕ) (moves : ℕ) → let a = forceOf file state targets moves in let w = forceWord a in
+    (refusalIn w ≡ forceSaid a .number) × (yesIn w ≡ valueAt (forceSaid a) 0) × (noMoveIn w ≡ bit (isReached a)) × (flagsIn w < 4) × (lowIn w ≡ valueAt (forceSaid a) 1) × (highIn w ≡ 0)
+drive-force-read file state targets moves = force-read (forceOf file state targets moves) (operation-below file state targets moves)
 
 -- A check shows its number, and the three numbers of an accepted table.
 pub check-refused-read : (c : Refusal) → let w = checkWord (table.Refused c) in (refusalIn w ≡ numberOf c) × (flagsIn w ≡ 0) × (lowIn w ≡ 0) × (highIn w ≡ 0)

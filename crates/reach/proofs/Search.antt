@@ -24,7 +24,7 @@ pub record Closed (file : List ℕ) (shape : Shape) : Type 0 where
 
 module _ (file : List ℕ) (shape : Shape) where
   -- A walk goes on by one operation.
-  walk-more : (state : ℕ) (by : List ℕ) (operation : ℕ) → walk file shape state (by ++ (operation ∷ [])) ≡ nextOf file shape (walk file shape state by) operation
+  pub walk-more : (state : ℕ) (by : List ℕ) (operation : ℕ) → walk file shape state (by ++ (operation ∷ [])) ≡ nextOf file shape (walk file shape state by) operation
   walk-more state [] operation = refl
   walk-more state (first ∷ rest) operation = walk-more (nextOf file shape state first) rest operation
 

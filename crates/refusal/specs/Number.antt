@@ -2,7 +2,7 @@
 use mathlib.Core.List.{List, []}
 use Prim.Native.Nat.{ℕ}
 use Rattle.refusal.specs.declared.Refusal.{Refusal}
-use Rattle.refusal.specs.declared.Refusal.the-variants.{File, Dimensions, Length, NextState, Row, Cells, Task, Operation, Pending, Idle, Record, Cell, Line, Rings, Chainage, Room, Unacknowledged, Window}
+use Rattle.refusal.specs.declared.Refusal.the-variants.{File, Dimensions, Length, NextState, Row, Cells, Task, Operation, Pending, Idle, Record, Cell, Line, Rings, Chainage, Room, Unacknowledged, Window, Question}
 
 -- The numbers follow the order of the page's table.
 abbrev pub numberOf : Refusal → ℕ
@@ -24,6 +24,7 @@ numberOf Chainage = 15
 numberOf Room = 16
 numberOf Unacknowledged = 17
 numberOf Window = 18
+numberOf Question = 19
 
 -- What an answer says: a number, 0 if the call is accepted, and the values that come with it.
 pub record Said : Type 0 where

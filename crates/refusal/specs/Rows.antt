@@ -2,7 +2,7 @@
 use mathlib.Core.List.{List, [], _∷_}
 use Prim.Native.Nat.{ℕ}
 use Rattle.refusal.specs.declared.Refusal.{Refusal}
-use Rattle.refusal.specs.declared.Refusal.the-variants.{File, Dimensions, Length, NextState, Row, Cells, Task, Operation, Pending, Idle, Record, Cell, Line, Rings, Chainage, Room, Unacknowledged, Window}
+use Rattle.refusal.specs.declared.Refusal.the-variants.{File, Dimensions, Length, NextState, Row, Cells, Task, Operation, Pending, Idle, Record, Cell, Line, Rings, Chainage, Room, Unacknowledged, Window, Question}
 
 pub record TableRow : Type 0 where
   pub cause : Refusal
@@ -49,4 +49,6 @@ rows =
     ∷ row Unacknowledged 17
     -- The window's command is not 0 to 3, or the windows are not 8 bytes for each task.
     ∷ row Window 18
+    -- Who can force it: moves, state, or the targets' length or a byte of them, out of range.
+    ∷ row Question 19
     ∷ []

@@ -40,6 +40,8 @@ pub enum Refusal {
     Unacknowledged,
     // The window's command is not 0 to 3, or the windows are not eight bytes for each task.
     Window,
+    // Who can force it: the moves, the state, or the targets' length or a byte of them are out of range.
+    Question,
 }
 
 // What a call that writes a file or a list into lent room answers.
@@ -72,5 +74,6 @@ pub fn number(cause: Refusal) -> u8
         Refusal::Room => 16,
         Refusal::Unacknowledged => 17,
         Refusal::Window => 18,
+        Refusal::Question => 19,
     }
 }
