@@ -1,0 +1,8 @@
+pub mod Turns
+pub mod Questions
+pub mod Forced
+pub mod Choices
+pub mod Plays
+pub mod Strategies
+pub mod Theorem
+pub mod Cases

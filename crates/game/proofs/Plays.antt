@@ -1,0 +1,126 @@
+-- What becomes of a turn along a play: after a move it is the other side's, with one move less.
+use mathlib.Core.Path.{_≡_, refl, sym, ap, _∙_}
+use mathlib.Core.Bool.{Bool, true, false, not, cond}
+use mathlib.Core.List.{List, []}
+use Prim.Native.Nat.{ℕ, zero, suc, _-_, _<_}
+use native.Mathlib.Omega.{arith}
+use borrow.Author.Tests.{eq-eqb, eqb-true, not-true}
+use lib.ListN.{length, length-append}
+use Rattle.laws.proofs.Below.{all-at, none-at}
+use Rattle.laws.proofs.Clash.{clash}
+use Rattle.table.specs.declared.Shape.{Shape}
+use Rattle.reach.specs.Walk.{nextOf, walk}
+use Rattle.reach.proofs.Search.{walk-more}
+use Rattle.game.specs.Turns.{isTarget, ours, theirs}
+use Rattle.game.specs.Play.{Strategy, Legal, jackMoves, play, Target}
+use Rattle.game.proofs.Choices.{choose, choose-holds, some-fails}
+use Rattle.game.proofs.Turns.{toTheirs, toOurs, ours-target, theirs-target, ours-none, theirs-none, ours-more, theirs-more}
+
+-- A target, as a test and as a fact.
+pub target-tested : (targets : List ℕ) (state : ℕ) → Target targets state → isTarget targets state ≡ true
+unfolding isTarget
+target-tested targets state e = eq-eqb _ _ e
+
+pub tested-target : (targets : List ℕ) (state : ℕ) → isTarget targets state ≡ true → Target targets state
+unfolding isTarget
+tested-target targets state e = eqb-true _ _ e
+
+pub untested : (targets : List ℕ) (state : ℕ) → (Target targets state → ⊥) → isTarget targets state ≡ false
+untested targets state none = by (isTarget targets state) refl
+  where
+    by : (b : Bool) → isTarget targets state ≡ b → b ≡ false
+    by true t = absurd (none (tested-target targets state t))
+    by false t = refl
+
+pub play-length : (jack link : Strategy) (made : ℕ) → length (play jack link made) ≡ made
+unfolding play
+play-length jack link zero = refl
+play-length jack link (suc made) = length-append (play jack link made) _ ∙ omega (arith, play-length jack link made)
+
+-- ---- One move
+
+module _ (file : List ℕ) (shape : Shape) (targets : List ℕ) where
+  -- The turn of a side.
+  abbrev pub turn : (jackToMove : Bool) (left state : ℕ) → Bool
+  turn true left state = ours file shape targets left state
+  turn false left state = theirs file shape targets left state
+
+  -- The turn of the other side, after an operation.
+  abbrev pub turnAfter : (jackMoved : Bool) (left state operation : ℕ) → Bool
+  turnAfter jackMoved left state operation = turn (not jackMoved) left (nextOf file shape state operation)
+
+  -- At a target every turn is won; with no move left only there.
+  pub lost-target : (side : Bool) (left state : ℕ) → turn side left state ≡ false → isTarget targets state ≡ false
+  lost-target side left state e = by (isTarget targets state) refl side e
+    where
+      by : (b : Bool) → isTarget targets state ≡ b → (side : Bool) → turn side left state ≡ false → b ≡ false
+      by false t side e = refl
+      by true t true e = clash (ours-target file shape targets left state t) e
+      by true t false e = clash (theirs-target file shape targets left state t) e
+
+  pub won-target : (side : Bool) (state : ℕ) → turn side 0 state ≡ true → isTarget targets state ≡ true
+  won-target true state e = sym (ours-none file shape targets state) ∙ e
+  won-target false state e = sym (theirs-none file shape targets state) ∙ e
+
+  -- What a side chooses, with so many moves left after it: the jack console an operation that wins, the link one that spoils.
+  abbrev pub wins : (left state : ℕ) → ℕ
+  wins left state = choose (shape .operations) (toTheirs file shape targets left state)
+
+  abbrev pub spoils : (left state : ℕ) → ℕ
+  spoils left state = choose (shape .operations) (λ operation. not (toOurs file shape targets left state operation))
+
+  -- A turn that is won, at no target: after every move of the link, and after the jack console's choice, the next is won.
+  pub won-after : (side : Bool) (left state operation : ℕ) → isTarget targets state ≡ false → turn side (suc left) state ≡ true → operation < shape .operations
+      → (side ≡ true → operation ≡ wins left state) → turnAfter side left state operation ≡ true
+  won-after true left state operation no-target e legal best =
+      ap (toTheirs file shape targets left state) (best refl)
+      ∙ choose-holds (shape .operations) (toTheirs file shape targets left state) (sym (ours-more file shape targets left state no-target) ∙ e)
+  won-after false left state operation no-target e legal best =
+      all-at (shape .operations) (toOurs file shape targets left state) (sym (theirs-more file shape targets left state no-target) ∙ e) operation legal
+
+  -- A turn that is not won: after every move of the jack console, and after the link's choice, the next isn't either.
+  pub lost-after : (side : Bool) (left state operation : ℕ) → turn side (suc left) state ≡ false → operation < shape .operations
+      → (side ≡ false → operation ≡ spoils left state) → turnAfter side left state operation ≡ false
+  lost-after true left state operation e legal best =
+      let no-target = lost-target true (suc left) state e in
+      none-at (shape .operations) (toTheirs file shape targets left state) (sym (ours-more file shape targets left state no-target) ∙ e) operation legal
+  lost-after false left state operation e legal best =
+      let test = toOurs file shape targets left state in
+      let none = some-fails (shape .operations) test (sym (theirs-more file shape targets left state (lost-target false (suc left) state e)) ∙ e) in
+      ap test (best refl) ∙ not-true _ (choose-holds (shape .operations) (λ operation. not (test operation)) none)
+
+  -- ---- A play
+
+  module _ (moves state : ℕ) (jack link : Strategy) where
+    -- The state after so many moves, the operation of the next one, and the turn.
+    abbrev pub after : ℕ → ℕ
+    after made = walk file shape state (play jack link made)
+
+    abbrev pub moveOf : ℕ → ℕ
+    moveOf made = cond (jackMoves made) (jack (play jack link made)) (link (play jack link made))
+
+    abbrev pub turnAt : ℕ → Bool
+    turnAt made = turn (jackMoves made) (moves - made) (after made)
+
+    pub move-legal : Legal shape jack → Legal shape link → (made : ℕ) → moveOf made < shape .operations
+    move-legal jack-legal link-legal made = by (jackMoves made)
+      where
+        by : (b : Bool) → cond b (jack (play jack link made)) (link (play jack link made)) < shape .operations
+        by true = jack-legal (play jack link made)
+        by false = link-legal (play jack link made)
+
+    -- After the opening it is the link's turn.
+    pub first-turn : turnAt 1 ≡ toTheirs file shape targets (moves - 1) state (jack [])
+    unfolding jackMoves play
+    first-turn = refl
+
+    after-more : (made : ℕ) → after (suc made) ≡ nextOf file shape (after made) (moveOf made)
+    unfolding play
+    after-more made = walk-more file shape state (play jack link made) (moveOf made)
+
+    pub turn-more : (made : ℕ) → turnAt (suc made) ≡ turnAfter (jackMoves made) (moves - suc made) (after made) (moveOf made)
+    unfolding jackMoves
+    turn-more made = ap (turn (not (jackMoves made)) (moves - suc made)) (after-more made)
+
+    pub turn-left : (made : ℕ) → made < moves → turnAt made ≡ turn (jackMoves made) (suc (moves - suc made)) (after made)
+    turn-left made h = let one : moves - made ≡ suc (moves - suc made) = omega (arith, h) in ap (λ k. turn (jackMoves made) k (after made)) one

@@ -1,0 +1,5 @@
+pub mod Turns
+pub mod Force
+pub mod Play
+pub mod Cases
+pub mod Statement
