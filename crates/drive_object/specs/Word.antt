@@ -22,6 +22,9 @@ use Rattle.window.specs.Serve.{windowSaid}
 use Rattle.window.specs.Line.{lineSaid}
 use Rattle.ring_desk.specs.declared.OwnerAnswer.{OwnerAnswer}
 use Rattle.ring_desk.specs.Owner.{ownerSaid}
+use Rattle.game.specs.declared.ForceAnswer.{ForceAnswer}
+use Rattle.game.specs.declared.ForceAnswer.the-variants as force
+use Rattle.game.specs.Force.{forceSaid}
 
 -- Byte 0 of a word is the number of the refusal, byte 1 has flags, bytes 2 and 3 are the low number, bytes 4 to 7 the high one.
 abbrev pub wordOf : (refusal flags low high : ℕ) → ℕ
@@ -30,6 +33,13 @@ wordOf c f l h = c + 256 * f + 65536 * l + 4294967296 * h
 -- The flags of an operation that has ended: bit 0, and bit 1 if it moved the state. All other answers have none.
 abbrev pub endedFlags : Bool → ℕ
 endedFlags moved = 1 + 2 * bit moved
+
+-- The flags of who can force it: bit 0 for a yes, and bit 1 too if no move is needed.
+abbrev pub forceFlags : ForceAnswer → ℕ
+forceFlags force.Reached = 3
+forceFlags (force.Wins _) = 1
+forceFlags force.Loses = 0
+forceFlags (force.Refused _) = 0
 
 -- What a kernel reads from a word.
 abbrev pub refusalIn : ℕ → ℕ
@@ -43,6 +53,12 @@ endedIn w = flagsIn w % 2
 
 abbrev pub movedIn : ℕ → ℕ
 movedIn w = flagsIn w / 2 % 2
+
+abbrev pub yesIn : ℕ → ℕ
+yesIn w = flagsIn w % 2
+
+abbrev pub noMoveIn : ℕ → ℕ
+noMoveIn w = flagsIn w / 2 % 2
 
 abbrev pub lowIn : ℕ → ℕ
 lowIn w = w / 65536 % 65536
@@ -98,3 +114,7 @@ ownerWord a = wordOf (ownerSaid a .number) 0 (valueAt (ownerSaid a) 0) 0
 -- The length of what was written is the high number.
 abbrev pub writtenWord : Written → ℕ
 writtenWord a = wordOf (writtenSaid a .number) 0 0 (valueAt (writtenSaid a) 0)
+
+-- A yes says so in the flags, and has the operation as the low number.
+abbrev pub forceWord : ForceAnswer → ℕ
+forceWord a = wordOf (forceSaid a .number) (forceFlags a) (valueAt (forceSaid a) 1) 0

@@ -1,7 +1,8 @@
-// The calls for kernels in C and Rust, those of the window, the writer and the ring desk among them: each answer is one word.
+// The calls for kernels in C and Rust, and those of the window, the writer, the game and the ring desk: each answer is one word.
 use cells::bit;
 use cells::ceiling;
 use cells::ceiling::Ceiling;
+use game::ForceAnswer;
 use records::record::Task;
 use refusal::Refusal;
 use refusal::Written;
@@ -22,7 +23,8 @@ ghost use Rattle.window.specs.Line.{lineOf};
 ghost use Rattle.ring_desk.specs.Owner.{ownerOf};
 ghost use Rattle.ring_desk.specs.Table.{tableOf};
 ghost use Rattle.canonical.specs.Canonical.{canonicalWritten};
-ghost use Rattle.drive_object.specs.Word.{wordOf, endedFlags, refusedWord, checkWord, startWord, beginWord, stepWord, windowWord, lineWord, ceilingWord, ownerWord, writtenWord};
+ghost use Rattle.game.specs.Force.{forceOf};
+ghost use Rattle.drive_object.specs.Word.{wordOf, endedFlags, refusedWord, checkWord, startWord, beginWord, stepWord, windowWord, lineWord, ceilingWord, ownerWord, writtenWord, forceWord};
 
 // The word of a refusal's number, of flags, and of two numbers.
 fn word(cause: u8, flags: u8, low: u16, high: u32) -> u64
@@ -150,6 +152,18 @@ fn written_word(answer: Written) -> u64
     }
 }
 
+// The word of who can force it.
+fn force_word(answer: ForceAnswer) -> u64
+    ensures { λ r. ⌜ r ≡ forceWord answer ⌝ }
+{
+    match answer {
+        ForceAnswer::Reached => word(0, 3, 0, 0),
+        ForceAnswer::Wins(operation) => word(0, 1, operation, 0),
+        ForceAnswer::Loses => word(0, 0, 0, 0),
+        ForceAnswer::Refused(cause) => refused_word(cause),
+    }
+}
+
 // Checks a table.
 #[no_mangle]
 pub extern "C" fn drive_check(file: &[u8]) -> u64
@@ -172,6 +186,14 @@ pub extern "C" fn drive_canonical(file: &[u8], room: &mut [u8]) -> u64
     ensures { λ r. ⌜ (now (room .exit) ≡ canonicalWritten (now (file .entry)) (now (room .entry)) .room) × (r ≡ writtenWord (canonicalWritten (now (file .entry)) (now (room .entry)) .answer)) ⌝ }
 {
     written_word(canonical::write_canonical(file, room))
+}
+
+// Whether the jack console can force a target, and by which operation it opens.
+#[no_mangle]
+pub extern "C" fn drive_force(file: &[u8], state: usize, targets: &[u8], moves: usize) -> u64
+    ensures { λ r. ⌜ r ≡ forceWord (forceOf (now (file .entry)) state (now (targets .entry)) moves) ⌝ }
+{
+    force_word(game::force(file, state, targets, moves))
 }
 
 // Starts a run: fills the cells with the image of the start state, and every record with an idle task.
