@@ -1,12 +1,12 @@
 /*
  * The drive object for kernels in C: a table of states and operations that up to eight tasks share through 64-bit
  * cells; the windows, eight bytes a task, through which consoles begin and step; the writer of the one file of an
- * object; and the ring desk, which tells what ring owns a chainage and writes the table of a drive. Link with
- * libdrive_object.a. docs/LINKING.md is the page about linking; table files, cells, windows and refusals stand in
- * docs/FORMATS.md, runs and steps in docs/RUNS.md.
+ * object; the question whether the jack console can force a target state; and the ring desk, which tells what ring owns
+ * a chainage and writes the table of a drive. Link with libdrive_object.a. docs/LINKING.md is the page about linking;
+ * table files, cells, windows and refusals stand in docs/FORMATS.md, runs and steps in docs/RUNS.md.
  *
  * What the caller owes, at every call:
- *  - Lent memory is valid for the whole call, to its given length: `file`, `rings` and the `windows` of
+ *  - Lent memory is valid for the whole call, to its given length: `file`, `targets`, `rings` and the `windows` of
  *    drive_window_line to be read, `cells`, `row`, the one record `own`, `room` and the `windows` of drive_window to be
  *    read and written. Cells, row and record are aligned to 8 bytes, rings to 4, and all of these hold values. With
  *    length 0 a pointer may have any value; the one to a record is always valid.
@@ -17,9 +17,9 @@
  * row or table, and every call is lent the same ones. A kernel may instead keep each record with its task: it takes
  * them out of the row after start, and makes every call for a task with the task's record and the row's number of
  * records. drive_window takes the record from the row. A console may write its bytes of its window between calls.
- * Nothing is asked of task, operation, chainage, any length or the bytes of a window: a call that can't be served is
- * refused. A call keeps no pointer and allocates nothing; start and drive_canonical call memset, and no call anything
- * else.
+ * Nothing is asked of task, operation, state, moves, chainage, any length or the bytes of a window or of targets: a call
+ * that can't be served is refused. A call keeps no pointer and allocates nothing; start and drive_canonical call memset,
+ * and no call anything else.
  *
  * Every call answers with one word, which the drive_answer functions below read. Byte 0, the lowest, is 0 if the call
  * is accepted, else the number of the first cause that holds; then everything lent is left as it was, with one
@@ -46,6 +46,9 @@ extern "C" {
 
 /* The longest file in bytes that drive_canonical writes, that of 256 states and 32 operations. */
 #define DRIVE_LONGEST_CANONICAL 16400
+
+/* The most moves that drive_force is asked for, those of both sides together. */
+#define DRIVE_MOST_MOVES 4
 
 /* The most rings of a list, and how many words each has: its length and its kind, one of the two below. */
 #define DRIVE_MOST_RINGS 255
@@ -95,7 +98,8 @@ enum drive_refusal {
     DRIVE_CHAINAGE = 15,       /* chainage that no ring owns */
     DRIVE_ROOM = 16,           /* lent room shorter than what is to be written */
     DRIVE_UNACKNOWLEDGED = 17, /* the window's command is a begin, and done is not acknowledged */
-    DRIVE_WINDOW = 18          /* the window's command is not 0 to 3, or the windows are not 8 bytes for each task */
+    DRIVE_WINDOW = 18,         /* the window's command is not 0 to 3, or the windows are not 8 bytes for each task */
+    DRIVE_QUESTION = 19        /* moves not 1 to 4, state not below states, or targets not a byte, 0 or 1, for each state */
 };
 
 /* The private record of a task, whose number is its place in the row. Start fills it; only the calls write it. The
@@ -133,6 +137,20 @@ uint64_t drive_check(const uint8_t *file, size_t file_length);
  * with states times operations.
  */
 uint64_t drive_canonical(const uint8_t *file, size_t file_length, uint8_t *room, size_t room_length);
+
+/*
+ * Whether the jack console can force a target, and with which operation first. Tests 1, 2, 3, then 4 on all entries, also
+ * those of states that can't be reached, then 19. From `state`, the jack console and the surface link take turns, one
+ * whole operation each, the jack console first, and make at most `moves` operations, both sides together, 1 to
+ * DRIVE_MOST_MOVES. `targets` has a byte for each state, 1 for a target, else 0; `target_count` is the number of its
+ * bytes, which must be that of the states. The answer is yes if the jack console can choose its operations so that
+ * whatever the link chooses, the state is a target at the outset or after some operation of either side. Writes nothing.
+ * Answers whether that is so, whether the state is a target at the outset, so that no move is needed, and if not the
+ * lowest operation that wins, which need not be the one that wins soonest. Its cost grows with states times operations
+ * and with the turns that may be made: with 32 operations and 4 moves these are up to 1,082,401.
+ */
+uint64_t drive_force(const uint8_t *file, size_t file_length, size_t state, const uint8_t *targets, size_t target_count,
+                     size_t moves);
 
 /*
  * Starts a run. Tests 1, 2, 3, 4 on all entries, 5, 6. Writes every cell, with the image of the start state, and
@@ -251,6 +269,15 @@ static inline uint16_t drive_answer_operations(uint64_t answer) { return (uint16
 
 /* Of an accepted check: the start state. */
 static inline uint16_t drive_answer_start_state(uint64_t answer) { return (uint16_t)(answer >> 48); }
+
+/* Of an accepted question for a target: whether the jack console can force one. */
+static inline bool drive_answer_forced(uint64_t answer) { return answer >> 8 & 1; }
+
+/* Of a target that can be forced: whether the state is one at the outset, so that no move is needed. */
+static inline bool drive_answer_reached(uint64_t answer) { return answer >> 9 & 1; }
+
+/* Of a target that can be forced and is not reached at the outset: the lowest operation that wins. */
+static inline uint16_t drive_answer_first_operation(uint64_t answer) { return (uint16_t)(answer >> 16); }
 
 /* Of an accepted question for the line of a window: whether it is up. */
 static inline bool drive_answer_line(uint64_t answer) { return answer >> 16 & 1; }

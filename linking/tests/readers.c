@@ -34,6 +34,22 @@ static void read_check(uint64_t reserved) {
     assert(drive_answer_start_state(checked) == 0x1234);
 }
 
+/* As of a step, bits 0 and 1 of byte 1 are read each for itself. */
+static void read_force(uint64_t reserved) {
+    for (unsigned bits = 0; bits < 1 << 2; bits++) {
+        uint64_t zeros = (uint64_t)bits << 8 | reserved;
+        uint64_t force = UINT64_C(0x12345678abcd0000) | zeros;
+        assert(drive_answer_refusal(zeros) == 0);
+        assert(drive_answer_forced(zeros) == (bits & 1));
+        assert(drive_answer_reached(zeros) == bits >> 1);
+        assert(drive_answer_first_operation(zeros) == 0);
+        assert(drive_answer_refusal(force) == 0);
+        assert(drive_answer_forced(force) == (bits & 1));
+        assert(drive_answer_reached(force) == bits >> 1);
+        assert(drive_answer_first_operation(force) == 0xabcd);
+    }
+}
+
 static void read_line(uint64_t reserved) {
     for (unsigned bit = 0; bit < 1 << 1; bit++) {
         uint64_t zeros = (uint64_t)bit << 16 | reserved;
@@ -68,6 +84,8 @@ static void read_refusals(uint64_t reserved) {
         assert(drive_answer_refusal(number | reserved) == number);
         assert(!drive_answer_ended(number | reserved));
         assert(!drive_answer_moved(number | reserved));
+        assert(!drive_answer_forced(number | reserved));
+        assert(!drive_answer_reached(number | reserved));
         assert(!drive_answer_line(number | reserved));
     }
 }
@@ -77,6 +95,7 @@ int main(void) {
         uint64_t reserved = bits << 10;
         read_step(reserved);
         read_check(reserved);
+        read_force(reserved);
         read_line(reserved);
         read_ceiling(reserved);
         read_owner(reserved);

@@ -255,7 +255,7 @@ fn random_object(random: &mut Random) -> TableFile {
 }
 
 /// Gives every entry its next state, which is counted round.
-fn lead(file: &mut TableFile, mut next: impl FnMut(usize, usize) -> usize) {
+pub fn lead(file: &mut TableFile, mut next: impl FnMut(usize, usize) -> usize) {
     let states = usize::from(file.states);
     for state in 0..states {
         for operation in 0..usize::from(file.operations) {

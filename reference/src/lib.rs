@@ -18,6 +18,9 @@ mod estimate;
 pub mod exploration;
 mod explore;
 pub mod file_calls;
+pub mod force;
+pub mod force_cases;
+mod force_tables;
 mod invariant;
 pub mod kernel;
 mod lines;
@@ -46,6 +49,8 @@ pub mod reply;
 mod rules;
 pub mod script_cases;
 mod search;
+#[cfg(test)]
+mod strategies;
 pub mod table;
 pub mod table_cases;
 pub mod table_file;

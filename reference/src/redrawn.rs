@@ -195,7 +195,7 @@ pub fn renumbered(file: &TableFile, random: &mut Random) -> TableFile {
 }
 
 /// The numbers below a bound, in any order.
-fn shuffled(bound: usize, random: &mut Random) -> Vec<usize> {
+pub fn shuffled(bound: usize, random: &mut Random) -> Vec<usize> {
     let mut numbers: Vec<usize> = (0..bound).collect();
     for last in (1..bound).rev() {
         numbers.swap(last, random.below(last + 1));

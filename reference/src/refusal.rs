@@ -38,6 +38,8 @@ pub enum Refusal {
     Unacknowledged,
     /// The window's command is not 0 to 3, or the windows are not 8 bytes for each task.
     Window,
+    /// Moves not 1 to 4, state not below s, or targets not a byte, 0 or 1, for each state.
+    Question,
 }
 
 impl Refusal {
@@ -61,6 +63,7 @@ impl Refusal {
             Refusal::Room => 16,
             Refusal::Unacknowledged => 17,
             Refusal::Window => 18,
+            Refusal::Question => 19,
         }
     }
 }

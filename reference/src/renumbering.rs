@@ -60,15 +60,11 @@ pub fn reachable(table: &Table) -> BTreeSet<usize> {
     let mut found = BTreeSet::from([table.start]);
     let mut added = found.clone();
     while !added.is_empty() {
-        let next = added.iter().flat_map(|&state| next_states(table, state));
+        let next = added.iter().flat_map(|&state| table.next_states(state));
         added = next.filter(|state| !found.contains(state)).collect();
         found.extend(&added);
     }
     found
-}
-
-fn next_states<'a>(table: &'a Table, state: usize) -> impl Iterator<Item = usize> + 'a {
-    (0..table.operations).map(move |operation| usize::from(table.entry(state, operation).next))
 }
 
 #[cfg(test)]

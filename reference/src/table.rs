@@ -65,6 +65,11 @@ impl<'a> Table<'a> {
         }
     }
 
+    /// Where each operation leads from a state, from operation 0 up.
+    pub fn next_states(&self, state: usize) -> impl Iterator<Item = usize> + '_ {
+        (0..self.operations).map(move |operation| usize::from(self.entry(state, operation).next))
+    }
+
     /// What an operation answers that is made in a state.
     pub fn reply(&self, state: usize, operation: usize) -> Reply {
         Reply {

@@ -218,6 +218,9 @@ fn sentence(refusal: Refusal) -> &'static str {
         Refusal::Room => "the room is shorter than what is to be written",
         Refusal::Unacknowledged => "the window's command is a begin, and done is not acknowledged",
         Refusal::Window => "the window's command is not 0 to 3, or the windows are not 8 bytes for each task",
+        Refusal::Question => {
+            "the moves are not 1 to 4, the state is not below the states, or the targets are not a byte, 0 or 1, for each state"
+        }
     }
 }
 

@@ -65,6 +65,7 @@ refusals! {
     16 Room "the room is shorter than what is to be written"
     17 Unacknowledged "the window's command is a begin, and done is not acknowledged"
     18 Window "the window's command is not 0 to 3, or the windows are not 8 bytes for each task"
+    19 Question "the moves are not 1 to 4, the state is not below the states, or the targets are not a byte, 0 or 1, for each state"
 }
 
 impl core::error::Error for Refusal {}
@@ -94,6 +95,17 @@ pub enum Progress {
         /// The own steps since begin, the ending one counted; at most the ceiling.
         steps: u32,
     },
+}
+
+/// Whether the jack console can force a target state.
+#[derive(Clone, Copy, Debug, PartialEq, Eq)]
+pub enum Force {
+    /// Yes: the state is a target at the outset, and no move is needed.
+    Reached,
+    /// Yes, and this is the lowest operation that wins.
+    Wins(u16),
+    /// No: whatever the jack console chooses, the link can keep out of every target.
+    Loses,
 }
 
 /// The word of an accepted call, or the refusal.
@@ -126,6 +138,16 @@ pub fn progress(word: u64) -> Result<Progress, Refusal> {
             moved: word >> 9 & 1 == 1,
             steps: (word >> 32) as u32,
         },
+    })
+}
+
+/// Bit 0 of byte 1 is 1 for a yes; then bit 1 is 1 if no move is needed, else bytes 2 and 3 are the operation.
+#[inline]
+pub fn force(word: u64) -> Result<Force, Refusal> {
+    accepted(word).map(|word| match (word >> 8 & 1, word >> 9 & 1) {
+        (0, _) => Force::Loses,
+        (_, 0) => Force::Wins((word >> 16) as u16),
+        _ => Force::Reached,
     })
 }
 
@@ -187,6 +209,19 @@ mod tests {
     }
 
     #[test]
+    fn forces_are_read_without_the_reserved_bits() {
+        let read = [Force::Loses, Force::Wins(0), Force::Loses, Force::Reached];
+        for (bits, read) in (0..).zip(read) {
+            for word in with_reserved(bits << 8) {
+                assert_eq!(force(word), Ok(read));
+            }
+        }
+        for word in with_reserved(0x1234_5678_abcd_0100) {
+            assert_eq!(force(word), Ok(Force::Wins(0xabcd)));
+        }
+    }
+
+    #[test]
     fn other_answers_are_read_without_the_reserved_bits() {
         let read = Shape {
             states: 0xabcd,
@@ -210,12 +245,13 @@ mod tests {
         for number in 1..=u8::MAX {
             let refusal = Refusal::of_number(number);
             assert_eq!(refusal.number(), number);
-            let known = matches!(number, 1..=12 | 14..=18);
+            let known = matches!(number, 1..=12 | 14..=19);
             assert_eq!(matches!(refusal, Refusal::Unknown(_)), !known);
             for word in with_reserved(u64::from(number)) {
                 assert_eq!(accepted(word), Err(refusal));
                 assert_eq!(shape(word), Err(refusal));
                 assert_eq!(progress(word), Err(refusal));
+                assert_eq!(force(word), Err(refusal));
                 assert_eq!(low_number(word), Err(refusal));
                 assert_eq!(line(word), Err(refusal));
                 assert_eq!(high_number(word), Err(refusal));

@@ -5,6 +5,14 @@ use crate::Task;
 extern "C" {
     fn drive_check(file: *const u8, file_length: usize) -> u64;
     fn drive_canonical(file: *const u8, file_length: usize, room: *mut u8, room_length: usize) -> u64;
+    fn drive_force(
+        file: *const u8,
+        file_length: usize,
+        state: usize,
+        targets: *const u8,
+        target_count: usize,
+        moves: usize,
+    ) -> u64;
     fn drive_start(
         file: *const u8,
         file_length: usize,
@@ -77,6 +85,21 @@ pub fn check(file: &[u8]) -> u64 {
 pub fn write_canonical(file: &[u8], room: &mut [u8]) -> u64 {
     // SAFETY: see above.
     unsafe { drive_canonical(file.as_ptr(), file.len(), room.as_mut_ptr(), room.len()) }
+}
+
+#[inline]
+pub fn force(file: &[u8], state: usize, targets: &[u8], moves: usize) -> u64 {
+    // SAFETY: see above.
+    unsafe {
+        drive_force(
+            file.as_ptr(),
+            file.len(),
+            state,
+            targets.as_ptr(),
+            targets.len(),
+            moves,
+        )
+    }
 }
 
 #[inline]

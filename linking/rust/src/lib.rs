@@ -1,7 +1,8 @@
 //! The drive object for kernels in Rust: a table of states and operations that up to eight tasks share through 64-bit
 //! cells; the windows, eight bytes a task, through which consoles begin and step; the writer of the one file of an object;
-//! and the ring desk, which tells what ring owns a chainage and writes the table of a drive. `docs/LINKING.md` is the page
-//! about linking; table files, cells, windows and refusals stand in `docs/FORMATS.md`, runs and steps in `docs/RUNS.md`.
+//! the question whether the jack console can force a target state; and the ring desk, which tells what ring owns a chainage
+//! and writes the table of a drive. `docs/LINKING.md` is the page about linking; table files, cells, windows and refusals
+//! stand in `docs/FORMATS.md`, runs and steps in `docs/RUNS.md`.
 //!
 //! The borrows say most of what a caller owes: what is lent is valid for the whole call, does not overlap, and nobody else
 //! writes it meanwhile. What is left to the kernel:
@@ -13,16 +14,16 @@
 //!   takes them out of the row after start, and makes every call for a task with the task's record and the row's number of
 //!   records. [`serve_window`] takes the record from the row. A console may write its bytes of its window between calls.
 //!
-//! Nothing is asked of task, operation, chainage, any length or the bytes of a window: a call that can't be served is
-//! refused with the first cause that holds, and then everything lent is left as it was, with one exception: a refused
-//! command writes bytes 1, 2, 4 and 5 of its window. No call panics, allocates or keeps a reference.
+//! Nothing is asked of task, operation, state, moves, chainage, any length or the bytes of a window or of targets: a call
+//! that can't be served is refused with the first cause that holds, and then everything lent is left as it was, with one
+//! exception: a refused command writes bytes 1, 2, 4 and 5 of its window. No call panics, allocates or keeps a reference.
 #![no_std]
 #![warn(missing_docs)]
 
 mod answer;
 mod foreign;
 
-pub use answer::{Progress, Refusal, Shape};
+pub use answer::{Force, Progress, Refusal, Shape};
 
 /// The most tasks of a run. It has one cell more than tasks: cell 0 is the head, cell i + 1 the announcement of task i.
 pub const MOST_TASKS: usize = 8;
@@ -32,6 +33,9 @@ pub const LONGEST_FILE: usize = 20_496;
 
 /// The longest file in bytes that [`write_canonical`] writes, that of 256 states and 32 operations.
 pub const LONGEST_CANONICAL: usize = 16_400;
+
+/// The most moves that [`force`] is asked for, those of both sides together.
+pub const MOST_MOVES: usize = 4;
 
 /// The most rings of a list.
 pub const MOST_RINGS: usize = 255;
@@ -117,6 +121,22 @@ pub fn check(file: &[u8]) -> Result<Shape, Refusal> {
 #[inline]
 pub fn write_canonical(file: &[u8], room: &mut [u8]) -> Result<u32, Refusal> {
     answer::high_number(foreign::write_canonical(file, room))
+}
+
+/// Whether the jack console can force a target, and with which operation first. Tests 1, 2, 3, then 4 on all entries, also
+/// those of states that can't be reached, then 19.
+///
+/// From `state`, the jack console and the surface link take turns, one whole operation each, the jack console first, and make
+/// at most `moves` operations, both sides together, 1 to [`MOST_MOVES`]. `targets` has a byte for each state, 1 for a target,
+/// else 0. The answer is a yes if the jack console can choose its operations so that whatever the link chooses, the state is
+/// a target at the outset or after some operation of either side. The operation of a yes is the lowest that wins, which need
+/// not be the one that wins soonest.
+///
+/// Writes nothing. Its cost grows with states times operations and with the turns that may be made: with 32 operations and 4
+/// moves these are up to 1,082,401.
+#[inline]
+pub fn force(file: &[u8], state: usize, targets: &[u8], moves: usize) -> Result<Force, Refusal> {
+    answer::force(foreign::force(file, state, targets, moves))
 }
 
 /// Starts a run. Tests 1, 2, 3, 4 on all entries, 5, 6.
