@@ -2,7 +2,6 @@
 
 use drive_object::{begin, start, Task};
 
-use crate::names::Names;
 use crate::object::Object;
 use crate::phase::begun_changing;
 use crate::refused;
@@ -16,7 +15,7 @@ pub fn report(file: &[u8]) -> Result<String, String> {
         format!("operations   {}", object.operations()),
         format!(
             "start state  {}",
-            numbered(&states, usize::from(object.shape.start), 0)
+            states.numbered(usize::from(object.shape.start), 0)
         ),
         format!("free text    {} bytes", object.text().len()),
     ];
@@ -38,19 +37,11 @@ pub fn report(file: &[u8]) -> Result<String, String> {
         let kind = kind(file, operation)?;
         lines.push(format!(
             "operation {:<names$}  {kind}",
-            numbered(&operations, operation, most)
+            operations.numbered(operation, most)
         ));
     }
     lines.push(String::new());
     Ok(lines.join("\n"))
-}
-
-/// A number, and its name if it has one.
-fn numbered(names: &Names, number: usize, width: usize) -> String {
-    match names.any() {
-        true => format!("{number:<width$} {}", names.of(number)),
-        false => number.to_string(),
-    }
 }
 
 /// Changing or reading, by the phase that the library's begin leaves on a started row.

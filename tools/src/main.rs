@@ -7,6 +7,7 @@ mod chart;
 mod check;
 mod consoles;
 mod difference;
+mod force;
 mod legend;
 mod lines;
 mod names;
@@ -25,6 +26,7 @@ mod room;
 mod same;
 mod session;
 mod show;
+mod strategy;
 mod svg;
 mod table;
 mod text;
@@ -40,7 +42,7 @@ use std::process::ExitCode;
 use drive_object::LONGEST_FILE;
 
 /// The forms of the commands, and what each gives.
-const FORMS: [(&str, &str); 13] = [
+const FORMS: [(&str, &str); 14] = [
     (
         "check TABLE",
         "the shape of an object file, and which operations change the state",
@@ -54,6 +56,10 @@ const FORMS: [(&str, &str); 13] = [
     (
         "same A B",
         "whether two object files are one object, and if not, why",
+    ),
+    (
+        "force TABLE STATE MOVES TARGET..",
+        "whether the jack console can force a target state, and how",
     ),
     ("run TABLE LINES", "the bench's lines, each with what happened"),
     (
@@ -82,10 +88,12 @@ const FIRST: &str =
 
 const LAST: &str = "
 TABLE, A, B, TEXT, LINES and RINGS are files; - is the standard input. docs/FORMATS.md says what a table, the bench's lines and
-a window are, tools/README.md what the texts of an object and of rings and the lines about windows are. CHAINAGE is in whole
+a window are, tools/README.md what the texts of an object and of rings and the lines about windows are. STATE and each TARGET,
+one or more, are states of the table by number or name; MOVES is 1 to 4, of both sides together. CHAINAGE is in whole
 millimetres.
 Exit status: 0, or 1 if something was refused or could not be read; the reason then stands on the standard error. A line
-of a run that is refused is part of its story, and no error. If A and B are not one object, the exit status is 2.
+of a run that is refused is part of its story, and no error. If A and B are not one object, or no target can be forced, the
+exit status is 2.
 ";
 
 /// The exit status of a command that answers no.
@@ -107,7 +115,7 @@ impl<B: Into<Vec<u8>>> From<B> for Answer {
 }
 
 fn help() -> String {
-    let forms = FORMS.map(|(form, gives)| format!("  drive {form:<29}{gives}\n"));
+    let forms = FORMS.map(|(form, gives)| format!("  drive {form:<34}{gives}\n"));
     [FIRST, &forms.concat(), LAST].concat()
 }
 
@@ -141,6 +149,9 @@ fn answer(arguments: &[OsString]) -> Result<Answer, String> {
         [] => Err("no command is given; drive --help lists the commands".into()),
         [command, word] => answer_to_one(command, word),
         [command, one, other] => answer_to_two(command, one, other),
+        [command, table, state, moves, targets @ ..] if *command == "force" && !targets.is_empty() => {
+            answer_to_force(table, state, moves, targets)
+        }
         [command, ..] => Err(other_words(command)),
     }
 }
@@ -169,18 +180,32 @@ fn answer_to_two(command: &OsStr, one: &OsStr, other: &OsStr) -> Result<Answer, 
         Some("same" | "run" | "picture" | "window") if one == "-" && other == "-" => {
             Err("the standard input can be only one of the files".into())
         }
-        Some("same") => {
-            let (line, yes) = same::report(&[named_table(one)?, named_table(other)?])?;
-            let status = if yes { 0 } else { NO };
-            Ok(Answer {
-                status,
-                ..Answer::from(line)
-            })
-        }
+        Some("same") => same::report(&[named_table(one)?, named_table(other)?]).map(yes_or_no),
         Some("run") => narrative::story(&read_table(one)?, &read(other)?).map(Answer::from),
         Some("picture") => picture::timeline(&read_table(one)?, &read(other)?).map(Answer::from),
         Some("window") => consoles::story(&read_table(one)?, &read(other)?).map(Answer::from),
         _ => Err(other_words(command)),
+    }
+}
+
+/// The answer to `force`, which takes a target or more.
+fn answer_to_force(
+    table: &OsStr,
+    state: &OsStr,
+    moves: &OsStr,
+    targets: &[&OsStr],
+) -> Result<Answer, String> {
+    let moves = force::moves_of(&moves.to_string_lossy())?;
+    let targets: Vec<_> = targets.iter().map(|target| target.to_string_lossy()).collect();
+    force::report(&read_table(table)?, &state.to_string_lossy(), moves, &targets).map(yes_or_no)
+}
+
+/// What is printed, with the exit status that says yes or no.
+fn yes_or_no((text, yes): (String, bool)) -> Answer {
+    let status = if yes { 0 } else { NO };
+    Answer {
+        status,
+        ..Answer::from(text)
     }
 }
 

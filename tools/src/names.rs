@@ -1,6 +1,9 @@
 //! Names of states and operations. An object file has room for names only in its free text: there a line `states:` or
 //! `operations:` may list them, in the order of their numbers.
 
+/// How many members in a row are listed one by one.
+const MOST_IN_A_ROW: usize = 3;
+
 /// The names of one kind, or none: then its members go by their numbers.
 #[derive(Default, PartialEq, Eq)]
 pub struct Names {
@@ -38,6 +41,31 @@ impl Names {
             .get(number)
             .cloned()
             .unwrap_or_else(|| number.to_string())
+    }
+
+    /// The number of a member in at least this width, and its name if it has one.
+    pub fn numbered(&self, number: usize, width: usize) -> String {
+        match self.names.get(number) {
+            Some(name) => format!("{number:<width$} {name}"),
+            None => number.to_string(),
+        }
+    }
+
+    /// Members of rising numbers, with their names if they have any; of many in a row the first and the last.
+    pub fn list(&self, numbers: &[usize]) -> String {
+        let rows = numbers.chunk_by(|one, next| one + 1 == *next);
+        let words: Vec<String> = rows.flat_map(|row| self.in_a_row(row)).collect();
+        words.join(", ")
+    }
+
+    fn in_a_row(&self, row: &[usize]) -> Vec<String> {
+        let numbered = |number: &usize| self.numbered(*number, 0);
+        match row {
+            [first, .., last] if row.len() > MOST_IN_A_ROW => {
+                vec![format!("{} to {}", numbered(first), numbered(last))]
+            }
+            few => few.iter().map(numbered).collect(),
+        }
     }
 
     /// The number of a member that is given by name or number.

@@ -10,6 +10,12 @@ pub fn grouped(number: u64) -> String {
     }
 }
 
+/// So many of a kind.
+pub fn counted(count: usize, kind: &str) -> String {
+    let ending = if count == 1 { "" } else { "s" };
+    format!("{count} {kind}{ending}")
+}
+
 /// The number that a word of digits stands for, if the type has it.
 pub fn of_digits<N: FromStr>(word: &str) -> Option<N> {
     match word.bytes().all(|byte| byte.is_ascii_digit()) {

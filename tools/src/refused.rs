@@ -6,7 +6,7 @@ use drive_object::Refusal;
 pub const LINE_NUMBER: u8 = 13;
 
 /// All that calls are refused with.
-const CALLS: [Refusal; 17] = [
+const CALLS: [Refusal; 18] = [
     Refusal::File,
     Refusal::Dimensions,
     Refusal::Length,
@@ -24,6 +24,7 @@ const CALLS: [Refusal; 17] = [
     Refusal::Room,
     Refusal::Unacknowledged,
     Refusal::Window,
+    Refusal::Question,
 ];
 
 /// The meaning of a refusal's number.

@@ -3,6 +3,7 @@
 use crate::canonical;
 use crate::difference::Difference;
 use crate::names::Names;
+use crate::number::counted;
 use crate::object::Object;
 
 /// An operation that stands more often in a row is counted.
@@ -99,9 +100,4 @@ fn in_a_row(row: &[usize], operations: &Names) -> Vec<String> {
         times if times > MOST_IN_A_ROW => vec![format!("{name} ({times} times)")],
         times => vec![name; times],
     }
-}
-
-fn counted(count: usize, kind: &str) -> String {
-    let ending = if count == 1 { "" } else { "s" };
-    format!("{count} {kind}{ending}")
 }

@@ -76,7 +76,10 @@ impl Window {
         let says = format!("operation {operation:<5}  {command:<11}  {status}  response {response}");
         let first = row(&format!("window {task}"), &self.hex(), &says);
         let second = (refusal != 0).then(|| {
-            let meaning = format!("last refused command: {}", refused::meaning_of(refusal));
+            let meaning = format!(
+                "last refused command, when taken: {}",
+                refused::meaning_of(refusal)
+            );
             row("refusal", &refusal.to_string(), &meaning)
         });
         [first].into_iter().chain(second).collect()

@@ -2,12 +2,13 @@
 
 use crate::program::drive;
 
-const COMMANDS: [&str; 11] = [
+const COMMANDS: [&str; 12] = [
     "check",
     "show",
     "table",
     "canonical",
     "same",
+    "force",
     "run",
     "picture",
     "window",
@@ -42,6 +43,7 @@ fn other_words_are_refused_with_the_right_ones() {
         ("table", "drive table TEXT > TABLE"),
         ("canonical", "drive canonical TABLE > TABLE2"),
         ("same", "drive same A B"),
+        ("force", "drive force TABLE STATE MOVES TARGET.."),
         ("run", "drive run TABLE LINES"),
         ("picture", "drive picture TABLE LINES > X.svg"),
         ("window", "drive window TABLE LINES"),
@@ -67,7 +69,8 @@ fn help_says_what_each_command_gives() {
         assert!(!gives.trim().is_empty());
     }
     assert!(help.contains("\nExit status: 0, or 1 if something was refused or could not be read;"));
-    assert!(help.contains("If A and B are not one object, the exit status is 2.\n"));
+    let no = "If A and B are not one object, or no target can be forced, the\nexit status is 2.\n";
+    assert!(help.contains(no));
     assert_eq!(drive(&["run", "a", "b", "--help"], b"").text(), help);
 }
 
@@ -110,6 +113,7 @@ fn a_file_that_cant_be_read_is_named() {
         vec!["canonical", "no/table"],
         vec!["same", "no/table", "-"],
         vec!["same", "../crates/bench/data/table.bin", "no/table"],
+        vec!["force", "no/table", "0", "1", "0"],
         vec!["run", "no/table", "-"],
         vec!["picture", "no/table", "-"],
         vec!["window", "no/table", "-"],

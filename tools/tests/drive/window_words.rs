@@ -13,7 +13,7 @@ pub fn refused(refusal: Refusal) -> String {
 }
 
 /// All causes for which calls are refused.
-const CAUSES: [Refusal; 17] = [
+const CAUSES: [Refusal; 18] = [
     Refusal::File,
     Refusal::Dimensions,
     Refusal::Length,
@@ -31,6 +31,7 @@ const CAUSES: [Refusal; 17] = [
     Refusal::Room,
     Refusal::Unacknowledged,
     Refusal::Window,
+    Refusal::Question,
 ];
 
 /// The sentence of a refusal's number.
@@ -80,7 +81,7 @@ pub fn window_rows(window: &[u8], task: usize) -> Vec<String> {
     let mut rows = vec![row(format!("window {task}"), &hex.join(" "), &words)];
     if window[4] > 0 {
         let refusal = window[4];
-        let last = format!("last refused command: {}", sentence(refusal));
+        let last = format!("last refused command, when taken: {}", sentence(refusal));
         rows.push(row("refusal".into(), &refusal.to_string(), &last));
     }
     rows

@@ -10,6 +10,9 @@
  * A window call counts itself in byte 7 and leaves the command. Command 1 is refused with 10, and leaves busy and the number
  * 17; 2 begins operation 31, a reading one; 3 ends an operation with response 200, moved; any other is refused with 99. A
  * line is up while it is masked, and that of task 1 is refused with 17; a task without a window gets 18.
+ * Whatever the targets are, with 0 moves none is needed but in state 1, and with 4 no target can be forced; else one is
+ * forced by operation 1 with 3 moves, by 9 with 5, by 0 with 6, and by 2 with others. A question for 2 moves is refused with
+ * 19, and so is one for state 9, or for state 1 with 8 moves; one for 99 moves is refused with 99.
  * What drive shows must follow it.
  */
 #include <string.h>
@@ -40,6 +43,32 @@ uint64_t drive_canonical(const uint8_t *file, size_t file_length, uint8_t *room,
     }
     room[text + 7] = file_length >= 28 ? calls : 0;
     return (text + 28) << 32;
+}
+
+static uint64_t forced_by(uint64_t operation) { return 1 << 8 | operation << 16; }
+
+uint64_t drive_force(const uint8_t *file, size_t file_length, size_t state, const uint8_t *targets, size_t target_count,
+                     size_t moves) {
+    (void)file, (void)file_length, (void)targets, (void)target_count;
+    if (state == 9 || moves == 2 || (state == 1 && moves == 8)) {
+        return DRIVE_QUESTION;
+    }
+    switch (moves) {
+    case 0:
+        return state == 1 ? forced_by(2) : 1 << 8 | 1 << 9;
+    case 3:
+        return forced_by(1);
+    case 4:
+        return 0;
+    case 5:
+        return forced_by(9);
+    case 6:
+        return forced_by(0);
+    case 99:
+        return 99;
+    default:
+        return forced_by(2);
+    }
 }
 
 uint64_t drive_start(const uint8_t *file, size_t file_length, uint64_t *cells, size_t cell_count, drive_task *row,
