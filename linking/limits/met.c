@@ -26,12 +26,17 @@ enum { PHASES = 88 };
 /* By which calls the steps of a run are made. */
 enum by { BY_ROW, BY_RECORD, BY_WINDOW, WAYS };
 
+/* The states of a game of four moves whose turns end after all operations: whose turn it is, the moves left, and how it
+ * ends. */
+enum { OURS_4_LOST, THEIRS_3_LOST, OURS_2_LOST, OURS_2_WON, THEIRS_1_LOST, THEIRS_1_WON, TARGET, NO_TARGET };
+
 /* Two bytes of a window, and two commands. */
 enum { COMMAND_BYTE = 1, INTERRUPT_BYTE = 5, BEGIN_COMMAND = 1, STEP_COMMAND = 2 };
 
 enum call {
     CHECK,
     CANONICAL,
+    FORCE,
     START,
     BEGIN,
     STEP,
@@ -53,6 +58,7 @@ static struct {
 } met[CALLS] = {
     [CHECK] = {.name = "drive_check"},
     [CANONICAL] = {.name = "drive_canonical"},
+    [FORCE] = {.name = "drive_force"},
     [START] = {.name = "drive_start"},
     [BEGIN] = {.name = "drive_begin"},
     [STEP] = {.name = "drive_step"},
@@ -257,6 +263,30 @@ static void table_calls(void) {
     WATCHED(CANONICAL, where, drive_canonical, file, file_length, room, sizeof room);
 }
 
+/* Has all operations of a state lead to one state, but for the last. */
+static void lead(uint8_t *table, unsigned state, uint8_t to, uint8_t by_last) {
+    uint8_t *entries = table + TEXT + 2 * OPERATIONS * state;
+    for (size_t operation = 0; operation < OPERATIONS; operation++) {
+        entries[2 * operation] = operation + 1 < OPERATIONS ? to : by_last;
+    }
+}
+
+/* A turn of ours is judged after all operations if it is lost or won by the last alone, one of theirs if it is won or
+ * lost by the last alone. */
+static void force_call(void) {
+    static uint8_t game[DRIVE_LONGEST_FILE];
+    static uint8_t targets[STATES] = {[TARGET] = 1};
+    memcpy(game, file, file_length);
+    lead(game, OURS_4_LOST, THEIRS_3_LOST, THEIRS_3_LOST);
+    lead(game, THEIRS_3_LOST, OURS_2_WON, OURS_2_LOST);
+    lead(game, OURS_2_LOST, THEIRS_1_LOST, THEIRS_1_LOST);
+    lead(game, OURS_2_WON, THEIRS_1_LOST, THEIRS_1_WON);
+    lead(game, THEIRS_1_LOST, TARGET, NO_TARGET);
+    lead(game, THEIRS_1_WON, TARGET, TARGET);
+    WATCHED(FORCE, "a game of 4 moves in which every turn tries all operations", drive_force, game, file_length,
+            OURS_4_LOST, targets, STATES, DRIVE_MOST_MOVES);
+}
+
 /* The longest lists, asked for an owner of their end and of what lies past it. */
 static void desk_calls(void) {
     static uint32_t rings[2 * DRIVE_MOST_RINGS];
@@ -282,6 +312,7 @@ int main(void) {
 
     make_table();
     table_calls();
+    force_call();
     desk_calls();
     for (size_t tasks = 1; tasks <= DRIVE_MOST_TASKS; tasks++) {
         WATCHED(CEILING, "an accepted call", drive_ceiling, tasks);

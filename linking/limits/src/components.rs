@@ -21,6 +21,12 @@ pub fn components(edges: &Edges) -> Vec<BTreeSet<usize>> {
     search.found
 }
 
+/// Whether a way leads from a part back to it; if it has one member alone, there may be none.
+pub fn is_cycle(edges: &Edges, part: &BTreeSet<usize>) -> bool {
+    let leads_back = |at: &usize| edges[at].iter().any(|next| part.contains(next));
+    part.iter().any(leads_back)
+}
+
 struct Search<'a> {
     edges: &'a Edges,
     /// In the order of the first visits.

@@ -1,6 +1,6 @@
 //! The instructions of a function that can be reached, each with those that can follow it.
 
-use std::collections::BTreeMap;
+use std::collections::{BTreeMap, BTreeSet};
 
 use crate::instruction::Flow;
 use crate::jump_tables::{table_jump, TableJump};
@@ -43,6 +43,25 @@ impl Graph {
         Ok(graph)
     }
 
+    /// The ways from the first instruction to an end that come to none of some instructions.
+    pub fn avoiding(&self, avoided: &BTreeSet<usize>) -> Result<Graph, String> {
+        let ends = self.edges.iter().filter(|(_, after)| after.is_empty());
+        let ends = ends.map(|(&at, _)| at).collect();
+        let from_first = reached(&self.edges, vec![0], avoided);
+        let to_end = reached(&predecessors(&self.edges), ends, avoided);
+        let kept: BTreeSet<usize> = from_first.intersection(&to_end).copied().collect();
+        if !kept.contains(&0) {
+            return Err("with too little left no way leads to an end".to_string());
+        }
+        let after = |at: &usize| self.edges[at].iter().copied();
+        let ways = |at: &usize| after(at).filter(|next| kept.contains(next)).collect();
+        let callees = self.callees.iter().filter(|(at, _)| kept.contains(at));
+        Ok(Graph {
+            edges: kept.iter().map(|at| (*at, ways(at))).collect(),
+            callees: callees.map(|(at, callee)| (*at, callee.clone())).collect(),
+        })
+    }
+
     /// Whether control comes to each instruction of a table's jump, behind the first, only from the one before it.
     fn test_tables(&self, function: &Function, tables: &BTreeMap<usize, TableJump>) -> Result<(), String> {
         let before = predecessors(&self.edges);
@@ -64,6 +83,18 @@ pub fn predecessors(edges: &Edges) -> Edges {
         }
     }
     before
+}
+
+/// The instructions that edges lead to from some, these counted, on ways that come to none of the avoided.
+fn reached(edges: &Edges, from: Vec<usize>, avoided: &BTreeSet<usize>) -> BTreeSet<usize> {
+    let mut reached = BTreeSet::new();
+    let mut ahead = from;
+    while let Some(at) = ahead.pop() {
+        if !avoided.contains(&at) && reached.insert(at) {
+            ahead.extend(edges.get(&at).into_iter().flatten());
+        }
+    }
+    reached
 }
 
 fn ways(

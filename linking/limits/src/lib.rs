@@ -1,7 +1,10 @@
 //! Upper limits of stack and instructions, from the machine code that objdump prints.
 
 pub mod archive;
+mod calls;
 mod components;
+pub mod cycles;
+pub mod given;
 mod graph;
 mod instruction;
 mod jump_tables;

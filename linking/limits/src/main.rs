@@ -8,8 +8,8 @@
 
 use std::process::ExitCode;
 
+use limits::given::GIVEN;
 use limits::survey::survey;
-use limits::turns::GIVEN;
 use limits::{archive, met, report};
 
 fn main() -> ExitCode {

@@ -1,13 +1,11 @@
 //! What was met in measured calls, beside the limits.
 
-use std::collections::BTreeMap;
-
 use crate::report::grouped;
-use crate::survey::Limits;
+use crate::survey::Known;
 
 /// A table with a row for each line of the measuring program: a call, its instructions, its bytes of stack, and where the
 /// instructions were met. Fails if a limit is passed.
-pub fn table(known: &BTreeMap<String, Limits>, measured: &str) -> Result<String, String> {
+pub fn table(known: &Known, measured: &str) -> Result<String, String> {
     let mut text = String::from(
         "| call | instructions, at most | met | bytes of stack, at most | met | the most instructions were met in |\n\
          |---|---|---|---|---|---|\n",
@@ -18,7 +16,7 @@ pub fn table(known: &BTreeMap<String, Limits>, measured: &str) -> Result<String,
     Ok(text)
 }
 
-fn row(known: &BTreeMap<String, Limits>, line: &str) -> Result<String, String> {
+fn row(known: &Known, line: &str) -> Result<String, String> {
     let unknown = || format!("the measuring program printed: {line}");
     let mut words = line.splitn(4, ' ');
     let call = words.next().ok_or_else(unknown)?;

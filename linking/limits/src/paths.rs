@@ -2,7 +2,7 @@
 
 use std::collections::{BTreeMap, BTreeSet};
 
-use crate::components::components;
+use crate::components::{components, is_cycle};
 use crate::graph::{predecessors, Edges};
 
 /// Where a loop is entered, and how many loops it stands in, itself counted.
@@ -40,7 +40,7 @@ fn loops_within(
     found: &mut Vec<Loop>,
 ) -> Result<(), String> {
     for part in components(region) {
-        if !is_loop(region, &part) {
+        if !is_cycle(region, &part) {
             continue;
         }
         let header = header(region, entry, &part)?;
@@ -76,7 +76,7 @@ impl Paths<'_> {
         let before = predecessors(region);
         let mut counts = Counts::new();
         for part in components(region) {
-            let is_loop = is_loop(region, &part);
+            let is_loop = is_cycle(region, &part);
             let first = if is_loop {
                 header(region, entry, &part)?
             } else {
@@ -91,7 +91,7 @@ impl Paths<'_> {
             match is_loop {
                 true => counts.extend(self.counts_of_loop(region, first, &part, until)?),
                 false => {
-                    counts.insert(first, until + self.weights[&first]);
+                    counts.insert(first, sum(until, self.weights[&first])?);
                 }
             }
         }
@@ -110,20 +110,22 @@ impl Paths<'_> {
         let turn = self.counts(&one_turn(region, header, part), header)?;
         let longest = turn.values().max().copied().unwrap_or(0);
         let turns = self.turns.get(&header).ok_or("a loop has no limit of turns")?;
-        let whole = turns.saturating_sub(1) * longest;
-        Ok(turn
-            .into_iter()
-            .map(|(at, count)| (at, until + whole + count))
-            .collect())
+        let whole = turns.saturating_sub(1).checked_mul(longest).ok_or(TOO_MANY)?;
+        let before_last = sum(until, whole)?;
+        turn.into_iter()
+            .map(|(at, count)| Ok((at, sum(before_last, count)?)))
+            .collect()
     }
+}
+
+const TOO_MANY: &str = "it counts more instructions than 64 bits hold";
+
+pub fn sum(one: u64, other: u64) -> Result<u64, String> {
+    one.checked_add(other).ok_or_else(|| TOO_MANY.to_string())
 }
 
 fn only(part: &BTreeSet<usize>) -> usize {
     part.first().copied().unwrap_or(0)
-}
-
-fn is_loop(region: &Edges, part: &BTreeSet<usize>) -> bool {
-    part.len() > 1 || region[&only(part)].contains(&only(part))
 }
 
 /// The one instruction by which a loop is entered.

@@ -1,14 +1,17 @@
 //! The tables for docs/LINKING.md, and their place in it.
 
-use std::collections::{BTreeMap, BTreeSet};
+use std::collections::BTreeSet;
 
-use crate::survey::Limits;
-use crate::turns::{Turn, Turns};
+use crate::cycles::Cycle;
+use crate::given::Given;
+use crate::survey::{Known, Limits};
+use crate::turns::Turn;
 
 /// The exported calls, in the page's order.
-pub const CALLS: [&str; 12] = [
+pub const CALLS: [&str; 13] = [
     "drive_check",
     "drive_canonical",
+    "drive_force",
     "drive_start",
     "drive_begin",
     "drive_step",
@@ -27,8 +30,8 @@ const EXPORTED: [&str; 2] = ["drive_", "desk_"];
 const OPENING: &str = "<!-- limits -->\n";
 const CLOSING: &str = "<!-- end of limits -->\n";
 
-/// The two tables: the calls with their limits, and the turns that are given.
-pub fn tables(known: &BTreeMap<String, Limits>, given: &[Turns]) -> Result<String, String> {
+/// The three tables: the calls with their limits, the turns that are given, and the depths that are.
+pub fn tables(known: &Known, given: &Given) -> Result<String, String> {
     let unknown = known
         .keys()
         .find(|name| is_exported(name) && !CALLS.contains(&name.as_str()));
@@ -46,10 +49,22 @@ pub fn tables(known: &BTreeMap<String, Limits>, given: &[Turns]) -> Result<Strin
         text.push_str(&row(call, limits));
     }
     text.push_str("\n| function | turns of its loops at most |\n|---|---|\n");
-    for (function, turns) in given {
+    for (function, turns) in given.turns {
         text.push_str(&format!("| `{function}` | {} |\n", product(turns)));
     }
-    Ok(text)
+    text.push_str(
+        "\n| functions that call themselves or each other | left at most at the first call | less at each further call \
+         | with none left |\n|---|---|---|---|\n",
+    );
+    let cycles = given.cycles.iter().map(row_of_cycle);
+    Ok(text + &cycles.collect::<String>())
+}
+
+fn row_of_cycle(cycle: &Cycle) -> String {
+    let members: Vec<String> = cycle.members.iter().map(|name| format!("`{name}`")).collect();
+    let (most, over, fall) = (cycle.most, cycle.over, cycle.fall);
+    let members = members.join(", ");
+    format!("| {members} | {most} {over} | {fall} | no loop, no further call |\n")
 }
 
 fn is_exported(name: &str) -> bool {

@@ -1,9 +1,8 @@
 //! Listings as objdump prints them, from short texts.
 
-use std::collections::BTreeMap;
-
+use limits::given::Given;
 use limits::listing::Listing;
-use limits::survey::{survey, Limits};
+use limits::survey::{survey, Known, Limits};
 use limits::turns::{Turn, Turns};
 
 /// A function's listing, in a section of its own. Instructions stand between semicolons, and the address of each is its
@@ -37,13 +36,14 @@ pub fn table(name: &str, targets: &[u64]) -> String {
 }
 
 /// The limits of functions, given by name and body.
-pub fn limits(
-    functions: &[(&str, &str)],
-    tables: &str,
-    given: &[Turns],
-) -> Result<BTreeMap<String, Limits>, String> {
+pub fn limits_by(functions: &[(&str, &str)], tables: &str, given: &Given) -> Result<Known, String> {
     let text: String = functions.iter().map(|(name, body)| code(name, body)).collect();
     survey(&Listing::parse(&text, tables)?, given)
+}
+
+/// The limits of functions none of which calls itself.
+pub fn limits(functions: &[(&str, &str)], tables: &str, turns: &[Turns]) -> Result<Known, String> {
+    limits_by(functions, tables, &Given { turns, cycles: &[] })
 }
 
 /// The limits of one function alone.

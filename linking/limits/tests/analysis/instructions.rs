@@ -97,15 +97,6 @@ fn loops_of_other_shapes_are_refused() {
 }
 
 #[test]
-fn recursion_is_refused() {
-    let itself = ("f", "call 1 @.text.f; ret");
-    assert_refused(limits(&[itself], "", &[]), "a function calls itself: f, f");
-    let one = ("one", "call 1 @.text.two; ret");
-    let two = ("two", "jmp 1 @.text.one");
-    assert_refused(limits(&[one, two], "", &[]), "calls itself: one, two, one");
-}
-
-#[test]
 fn unknown_ways_are_refused() {
     assert_refused(count("call *%rax; ret", &[]), "has an unknown target");
     assert_refused(count("jmp *0x8(%rax)", &[]), "has an unknown target");

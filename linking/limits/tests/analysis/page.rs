@@ -1,5 +1,7 @@
 //! The tables of the page.
 
+use limits::cycles::Cycle;
+use limits::given::Given;
 use limits::met;
 use limits::report::{grouped, marked, tables, CALLS};
 use limits::turns::Turn;
@@ -16,6 +18,16 @@ const LOOPS: [Turn; 3] = [
     turn(1, 8, "records"),
 ];
 
+const GIVEN: Given = Given {
+    turns: &[("f", &LOOPS)],
+    cycles: &[Cycle {
+        members: &["g", "h"],
+        most: 4,
+        fall: 2,
+        over: "moves",
+    }],
+};
+
 #[test]
 fn numbers_are_grouped() {
     assert_eq!(
@@ -31,7 +43,7 @@ fn each_call_has_a_row() {
         _ => (call, "ret"),
     });
     let known = limits(&functions, "", &[]).unwrap();
-    let text = tables(&known, &[("f", &LOOPS)]).unwrap();
+    let text = tables(&known, &GIVEN).unwrap();
     assert!(
         text.contains("\n| `drive_check` | 8 | 0 | 1 | none |\n"),
         "{text}"
@@ -41,7 +53,11 @@ fn each_call_has_a_row() {
         "{text}"
     );
     assert!(
-        text.ends_with("\n| `f` | 32 operations × 256 states; 8 records |\n"),
+        text.contains("\n| `f` | 32 operations × 256 states; 8 records |\n\n"),
+        "{text}"
+    );
+    assert!(
+        text.ends_with("\n| `g`, `h` | 4 moves | 2 | no loop, no further call |\n"),
         "{text}"
     );
 }
@@ -49,10 +65,10 @@ fn each_call_has_a_row() {
 #[test]
 fn other_calls_are_refused() {
     let few = limits(&[("drive_check", "ret")], "", &[]).unwrap();
-    assert_refused(tables(&few, &[]), "drive_canonical is not in the archive");
+    assert_refused(tables(&few, &GIVEN), "drive_canonical is not in the archive");
     for name in ["drive_other", "desk_other"] {
         let other = limits(&[(name, "ret")], "", &[]).unwrap();
-        assert_refused(tables(&other, &[]), &format!("{name} is exported"));
+        assert_refused(tables(&other, &GIVEN), &format!("{name} is exported"));
     }
 }
 
