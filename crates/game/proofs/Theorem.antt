@@ -1,7 +1,7 @@
 -- The statements about the call: what is turned away, and that the answers are those of the strategies.
 use mathlib.Core.Path.{_≡_, refl, sym, ap, subst, _∙_}
 use mathlib.Core.Bool.{Bool, true, false}
-use mathlib.Core.Logic.{_⊎_, inl, inr}
+use mathlib.Core.Logic.{_⊎_, inl, inr, ⊎-elim}
 use mathlib.Core.List.{List, [], _∷_}
 use Prim.Native.Nat.{ℕ, zero, suc, _+_, _-_, _<_, _≤_}
 use native.Mathlib.Omega.{arith}
@@ -11,7 +11,6 @@ use lib.Dec.{ltb}
 use lib.ListN.{length, getD}
 use Rattle.laws.specs.Lowest.{lowestBelow}
 use Rattle.laws.proofs.Below.{all-at}
-use Rattle.laws.proofs.Choice.{choice}
 use Rattle.laws.proofs.Clash.{clash}
 use Rattle.laws.proofs.Lowest.{lowest-at, lowest-found}
 use Rattle.refusal.specs.declared.Refusal.{Refusal}
@@ -28,7 +27,7 @@ use Rattle.reach.specs.Walk.{nextOf}
 use Rattle.game.specs.declared.ForceAnswer.{ForceAnswer}
 use Rattle.game.specs.declared.ForceAnswer.the-variants.{Reached, Wins, Loses, Refused}
 use Rattle.game.specs.Turns.{isTarget, ours, theirs}
-use Rattle.game.specs.Force.{questionFits, found, opening, turnOf, isYes, forceOf, forceSaid}
+use Rattle.game.specs.Force.{questionFits, found, turnOf, isYes, forceOf, forceSaid}
 use Rattle.game.specs.Play.{Target, Forces, Avoids}
 use Rattle.game.specs.Statement.{Asked, ForceRefused, ForceAnswered, AnsweredByStrategies, NotBoth, Yes, StaysYes, AskedAgain}
 use Rattle.game.proofs.Turns.{toTheirs, toOurs, ours-none, theirs-none, reached, turn-some, theirs-more, yes-ours}
@@ -77,6 +76,7 @@ module _ (file : List ℕ) (shape : Shape) (state : ℕ) (targets : List ℕ) (m
         reached = (λ _. met, λ _. said);
         wins = λ o. (λ f. absurd (one-value (sym said ∙ f)), λ other. absurd (other .0 met));
         loses = (λ f. absurd (no-yes (sym f ∙ said)), λ other. absurd (other .0 met));
+        only = inl (inl said);
       }
 
   module _ (none : isTarget targets state ≡ false) where
@@ -130,6 +130,7 @@ module _ (file : List ℕ) (shape : Shape) (state : ℕ) (targets : List ℕ) (m
                 said ∙ ap (λ k. accepted (1 ∷ k ∷ [])) (lowest-at (shape .operations) test o known (forced-wins o f) (λ p l. avoided-loses p (omega (arith, known, l)) (lower p l))),
           );
           loses = (λ f. absurd (no-yes (sym f ∙ said)), λ other. absurd (not-both file shape targets moves state lowest forced (other .1 lowest h)));
+          only = inl (inr (lowest, said));
         }
 
     at-none : ltb lowest (shape .operations) ≡ false → ForceAnswered file shape state targets moves
@@ -141,6 +142,7 @@ module _ (file : List ℕ) (shape : Shape) (state : ℕ) (targets : List ℕ) (m
           reached = (λ f. absurd (no-yes (sym said ∙ f)), λ met. absurd (no-target met));
           wins = λ o. (λ f. absurd (no-yes (sym said ∙ f)), λ (_, known, f, _). absurd (not-both file shape targets moves state o f (can-avoid o (none-wins o known))));
           loses = (λ _. (no-target, λ o h. can-avoid o (none-wins o h)), λ _. said);
+          only = inr said;
         }
 
 pub answered-by-strategies : AnsweredByStrategies
@@ -155,28 +157,6 @@ answered-by-strategies file shape state targets moves e asked = by (isTarget tar
     by false none = by-lowest none (ltb (lowest file shape state targets moves e asked none) (shape .operations)) refl
 
 -- ---- What is turned away
-
--- The answer is no refusal.
-abbrev isServed : ForceAnswer → Bool
-isServed Reached = true
-isServed (Wins _) = true
-isServed Loses = true
-isServed (Refused _) = false
-
-served-number : (a : ForceAnswer) → isServed a ≡ true → forceSaid a .number ≡ 0
-served-number Reached e = refl
-served-number (Wins operation) e = refl
-served-number Loses e = refl
-served-number (Refused cause) e = clash e refl
-
--- That of a turn is none.
-turn-served : (file : List ℕ) (shape : Shape) (targets : List ℕ) (left state : ℕ) → isServed (turnOf file shape targets left state) ≡ true
-unfolding turnOf
-turn-served file shape targets left state = choice (λ a. isServed a ≡ true) (isTarget targets state) Reached _ refl (by left)
-  where
-    by : (k : ℕ) → isServed (opening file shape targets k state) ≡ true
-    by zero = refl
-    by (suc k) = choice (λ a. isServed a ≡ true) (ltb _ (shape .operations)) (Wins _) Loses refl refl
 
 module _ (file : List ℕ) (state : ℕ) (targets : List ℕ) (moves : ℕ) where
   abbrev said : Said
@@ -196,16 +176,19 @@ module _ (file : List ℕ) (state : ℕ) (targets : List ℕ) (moves : ℕ) wher
     checked-accepted : (number : ℕ) → 1 ≤ number → checkSaid (checkOf file) ≡ refusedBy number → ⊥
     checked-accepted number some f = numbers-apart (sym (ap checkSaid e) ∙ f) (λ z. omega arith)
 
+    -- What is answered is no refusal.
+    answer-accepted : Yes file state targets moves ⊎ (said ≡ accepted (0 ∷ [])) → (number : ℕ) → 1 ≤ number → said ≡ refusedBy number → ⊥
+    answer-accepted (inl (inl f)) number some g = numbers-apart (sym f ∙ g) (λ z. omega arith)
+    answer-accepted (inl (inr (operation, f))) number some g = numbers-apart (sym f ∙ g) (λ z. omega arith)
+    answer-accepted (inr f) number some g = numbers-apart (sym f ∙ g) (λ z. omega arith)
+
     asked-served : questionFits shape state targets moves ≡ true → ForceRefused file state targets moves
     asked-served fits =
-        let served : (number : ℕ) → 1 ≤ number → said ≡ refusedBy number → ⊥ =
-        λ number some f.
-        let zero-is : 0 ≡ number = sym (served-number (turnOf file shape targets moves state) (turn-served file shape targets moves state)) ∙ ap (λ (s : Said). s .number) (sym (ap forceSaid (forced-turn file state targets moves shape e fits)) ∙ f) in
-        omega arith
-        in
+        let asked = fits-asked shape targets state moves fits in
+        let served = answer-accepted (answered-by-strategies file shape state targets moves e asked .only) in
         record {
           table = λ number some _. (λ f. absurd (served number some f), λ f. absurd (checked-accepted number some f));
-          question = (λ f. absurd (served 19 (omega arith) f), λ (other, f, out). absurd (out (subst (λ x. Asked x state targets moves) (same-shape (sym e ∙ f)) (fits-asked shape targets state moves fits))));
+          question = (λ f. absurd (served 19 (omega arith) f), λ (other, f, out). absurd (out (subst (λ x. Asked x state targets moves) (same-shape (sym e ∙ f)) asked)));
           only = λ number some f. absurd (served number some f);
         }
 
@@ -255,13 +238,6 @@ yes-said (Wins operation) e = inr (operation, refl)
 yes-said Loses e = clash e refl
 yes-said (Refused cause) e = clash e refl
 
--- An answer that is neither a yes nor a refusal is a no.
-no-said : (a : ForceAnswer) → isServed a ≡ true → isYes a ≡ false → forceSaid a ≡ accepted (0 ∷ [])
-no-said Reached s e = clash refl e
-no-said (Wins operation) s e = clash refl e
-no-said Loses s e = refl
-no-said (Refused cause) s e = clash s refl
-
 -- What forces with so many moves forces with one more.
 forces-more : {file : List ℕ} {shape : Shape} {targets : List ℕ} {moves state operation : ℕ} → Forces file shape targets moves state operation → Forces file shape targets (moves + 1) state operation
 forces-more f = record { jack = f .jack; legal = f .legal; opens = f .opens; meets = λ link legal. let (made, few, met) = f .meets link legal in (made, omega arith, met) }
@@ -272,14 +248,10 @@ module _ (file : List ℕ) (shape : Shape) (state : ℕ) (targets : List ℕ) (m
 
   -- Where something forces a target, the answer is yes.
   forced-yes : (operation : ℕ) → operation < shape .operations → Forces file shape targets moves state operation → Yes file state targets moves
-  forced-yes operation known f = by (isYes (turnOf file shape targets moves state)) refl
+  forced-yes operation known f = ⊎-elim (λ y. y) (λ lost. absurd (not-both file shape targets moves state operation f (answered .loses .0 lost .1 operation known))) (answered .only)
     where
-      by : (b : Bool) → isYes (turnOf file shape targets moves state) ≡ b → Yes file state targets moves
-      by true y = turn-yes y
-      by false n =
-          let lost = said-is file shape state targets moves e asked refl ∙ no-said (turnOf file shape targets moves state) (turn-served file shape targets moves state) n in
-          let avoided = answered-by-strategies file shape state targets moves e asked .loses .0 lost in
-          absurd (not-both file shape targets moves state operation f (avoided .1 operation known))
+      answered : ForceAnswered file shape state targets moves
+      answered = answered-by-strategies file shape state targets moves e asked
 
 asked-more : {shape : Shape} {state : ℕ} {targets : List ℕ} {moves : ℕ} → moves < 4 → Asked shape state targets moves → Asked shape state targets (moves + 1)
 asked-more more a = record { some = omega arith; few = omega arith; known = a .known; long = a .long; bits = a .bits }

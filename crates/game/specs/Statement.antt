@@ -32,6 +32,12 @@ pub record ForceRefused (file : List ℕ) (state : ℕ) (targets : List ℕ) (mo
 
 -- ---- What is answered
 
+-- The answer is yes: with no move, or with an operation.
+abbrev pub Yes : (file : List ℕ) (state : ℕ) (targets : List ℕ) (moves : ℕ) → Type 0
+Yes file state targets moves =
+    (forceSaid (forceOf file state targets moves) ≡ accepted (1 ∷ []))
+    ⊎ ((operation : ℕ) × (forceSaid (forceOf file state targets moves) ≡ accepted (1 ∷ operation ∷ [])))
+
 -- The answers to a question about an accepted table, each exactly by the strategies.
 pub record ForceAnswered (file : List ℕ) (shape : Shape) (state : ℕ) (targets : List ℕ) (moves : ℕ) : Type 0 where
   -- Yes with no move, exactly if the state is a target.
@@ -44,6 +50,8 @@ pub record ForceAnswered (file : List ℕ) (shape : Shape) (state : ℕ) (target
   -- No, exactly if the state is no target and the link can avoid the targets after every operation.
   pub loses : (forceSaid (forceOf file state targets moves) ≡ accepted (0 ∷ []))
       ↔ ((Target targets state → ⊥) × ((operation : ℕ) → operation < shape .operations → Avoids file shape targets moves state operation))
+  -- Nothing else is answered.
+  pub only : Yes file state targets moves ⊎ (forceSaid (forceOf file state targets moves) ≡ accepted (0 ∷ []))
 
 -- The three equivalences.
 abbrev pub AnsweredByStrategies : Type 0
@@ -57,19 +65,13 @@ NotBoth = (file : List ℕ) (shape : Shape) (targets : List ℕ) (moves state op
 
 -- ---- What follows for a planner
 
--- The answer is yes: with no move, or with an operation.
-abbrev pub Yes : (file : List ℕ) (state : ℕ) (targets : List ℕ) (moves : ℕ) → Type 0
-Yes file state targets moves =
-    (forceSaid (forceOf file state targets moves) ≡ accepted (1 ∷ []))
-    ⊎ ((operation : ℕ) × (forceSaid (forceOf file state targets moves) ≡ accepted (1 ∷ operation ∷ [])))
-
 -- A yes stays a yes with one move more.
 abbrev pub StaysYes : Type 0
 StaysYes = (file : List ℕ) (state : ℕ) (targets : List ℕ) (moves : ℕ) → moves < 4 → Yes file state targets moves → Yes file state targets (moves + 1)
 
 -- After a yes with an operation, with so many moves left after it: the operation leads to a target, or the link has a move, and
--- whatever it does, that leads to a target, or the same question from there, with its move less, is a yes. So a planner may ask
--- again for the next move.
+-- whatever it does, that leads to a target, or the same question from there, with its move less, is a yes; with no move left there
+-- is no yes, so that it is a target. So a planner may ask again for the next move.
 abbrev pub AskedAgain : Type 0
 AskedAgain = (file : List ℕ) (shape : Shape) (state : ℕ) (targets : List ℕ) (left operation : ℕ) → checkOf file ≡ Accepted shape
     → forceSaid (forceOf file state targets (left + 1)) ≡ accepted (1 ∷ operation ∷ [])
