@@ -63,7 +63,7 @@ fn loses(game: &Game, state: usize, moves: usize) -> String {
     let (from, targets, within) = (game.state(state), targets(game, "any of"), counted(moves, "move"));
     let why = match moves {
         1 => "no operation leads there",
-        _ => "whatever it does, the surface link can keep away",
+        _ => "no operation that it may open with does",
     };
     format!("no: from {from} the jack console can't force {targets} within {within}: {why}\n")
 }

@@ -41,7 +41,7 @@ use Rattle.game.specs.declared.ForceAnswer.{ForceAnswer}
 use Rattle.game.specs.declared.ForceAnswer.the-variants as force
 use Rattle.game.specs.Force.{forceOf, forceSaid, isReached}
 use Rattle.game.proofs.Theorem.{operation-below}
-use Rattle.drive_object.specs.Word.{wordOf, endedFlags, refusalIn, flagsIn, endedIn, movedIn, yesIn, noMoveIn, lowIn, highIn, valueAt, refusedWord, checkWord, startWord, answerWord, ceilingWord, windowWord, lineWord, ownerWord, writtenWord, forceWord}
+use Rattle.drive_object.specs.Word.{wordOf, endedFlags, refusalIn, flagsIn, firstFlagIn, secondFlagIn, lowIn, highIn, valueAt, refusedWord, checkWord, startWord, answerWord, ceilingWord, windowWord, lineWord, ownerWord, writtenWord, forceWord}
 
 -- The four parts of a word, each as wide as its bytes.
 pub parts-read : (c f l h : ℕ) → c < 256 → f < 256 → l < 65536
@@ -133,9 +133,12 @@ pub written-read : (a : Written) → let w = writtenWord a in
 written-read (written.Length k) = parts-read 0 0 0 k (omega arith) (omega arith) (omega arith)
 written-read (written.Refused c) = refused-read c
 
--- Who can force it shows its number, whether it is a yes, whether no move is needed for it, and the operation.
-force-read : (a : ForceAnswer) → valueAt (forceSaid a) 1 < 65536 → let w = forceWord a in
-    (refusalIn w ≡ forceSaid a .number) × (yesIn w ≡ valueAt (forceSaid a) 0) × (noMoveIn w ≡ bit (isReached a)) × (flagsIn w < 4) × (lowIn w ≡ valueAt (forceSaid a) 1) × (highIn w ≡ 0)
+-- Force shows its number, whether it is a yes, whether no move is needed for it, the operation, and nothing else.
+abbrev ForceShown : ForceAnswer → Type 0
+ForceShown a = let w = forceWord a in
+    (refusalIn w ≡ forceSaid a .number) × (firstFlagIn w ≡ valueAt (forceSaid a) 0) × (secondFlagIn w ≡ bit (isReached a)) × (flagsIn w < 4) × (lowIn w ≡ valueAt (forceSaid a) 1) × (highIn w ≡ 0)
+
+force-read : (a : ForceAnswer) → valueAt (forceSaid a) 1 < 65536 → ForceShown a
 force-read force.Reached h = (refl, refl, refl, omega arith, refl, refl)
 force-read (force.Wins o) h =
     let (number, flags, low, high) = parts-read 0 1 o 0 (omega arith) (omega arith) h in
@@ -145,8 +148,7 @@ force-read (force.Refused c) h =
     let (number, flags, low, high) = refused-read c in
     (number, ap (λ f. f % 2) flags, ap (λ f. f / 2 % 2) flags, omega (arith, flags), low, high)
 
-pub drive-force-read : (file : List ℕ) (state : ℕ) (targets : List ℕ) (moves : ℕ) → let a = forceOf file state targets moves in let w = forceWord a in
-    (refusalIn w ≡ forceSaid a .number) × (yesIn w ≡ valueAt (forceSaid a) 0) × (noMoveIn w ≡ bit (isReached a)) × (flagsIn w < 4) × (lowIn w ≡ valueAt (forceSaid a) 1) × (highIn w ≡ 0)
+pub drive-force-read : (file : List ℕ) (state : ℕ) (targets : List ℕ) (moves : ℕ) → ForceShown (forceOf file state targets moves)
 drive-force-read file state targets moves = force-read (forceOf file state targets moves) (operation-below file state targets moves)
 
 -- A check shows its number, and the three numbers of an accepted table.
@@ -165,7 +167,7 @@ pub running-read : (refusalIn (answerWord paper.Running) ≡ 0) × (flagsIn (ans
 running-read = (refl, refl)
 
 pub ended-read : (v : Outcome) (k : ℕ) → v .response < 65536 → let w = answerWord (paper.Ended v k) in
-    (refusalIn w ≡ 0) × (flagsIn w ≡ endedFlags (v .moved)) × (endedIn w ≡ 1) × (movedIn w ≡ bit (v .moved)) × (lowIn w ≡ v .response) × (highIn w ≡ k)
+    (refusalIn w ≡ 0) × (flagsIn w ≡ endedFlags (v .moved)) × (firstFlagIn w ≡ 1) × (secondFlagIn w ≡ bit (v .moved)) × (lowIn w ≡ v .response) × (highIn w ≡ k)
 ended-read v k h =
     let (ended, moved, few) = flags-read (v .moved) in
     let (number, flags, low, high) = parts-read 0 (endedFlags (v .moved)) (v .response) k (omega arith) (omega (arith, few)) h in

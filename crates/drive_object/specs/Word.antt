@@ -30,11 +30,11 @@ use Rattle.game.specs.Force.{forceSaid}
 abbrev pub wordOf : (refusal flags low high : ℕ) → ℕ
 wordOf c f l h = c + 256 * f + 65536 * l + 4294967296 * h
 
--- The flags of an operation that has ended: bit 0, and bit 1 if it moved the state. All other answers have none.
+-- The flags of an operation that has ended: bit 0, and bit 1 if it moved the state.
 abbrev pub endedFlags : Bool → ℕ
 endedFlags moved = 1 + 2 * bit moved
 
--- The flags of who can force it: bit 0 for a yes, and bit 1 too if no move is needed.
+-- The flags of force: bit 0 for a yes, and bit 1 too if no move is needed. All other answers have none.
 abbrev pub forceFlags : ForceAnswer → ℕ
 forceFlags force.Reached = 3
 forceFlags (force.Wins _) = 1
@@ -48,17 +48,13 @@ refusalIn w = w % 256
 abbrev pub flagsIn : ℕ → ℕ
 flagsIn w = w / 256 % 256
 
-abbrev pub endedIn : ℕ → ℕ
-endedIn w = flagsIn w % 2
+-- Bit 0 of the flags: an operation has ended, or force says yes.
+abbrev pub firstFlagIn : ℕ → ℕ
+firstFlagIn w = flagsIn w % 2
 
-abbrev pub movedIn : ℕ → ℕ
-movedIn w = flagsIn w / 2 % 2
-
-abbrev pub yesIn : ℕ → ℕ
-yesIn w = flagsIn w % 2
-
-abbrev pub noMoveIn : ℕ → ℕ
-noMoveIn w = flagsIn w / 2 % 2
+-- Bit 1 of the flags: the operation moved the state, or no move is needed.
+abbrev pub secondFlagIn : ℕ → ℕ
+secondFlagIn w = flagsIn w / 2 % 2
 
 abbrev pub lowIn : ℕ → ℕ
 lowIn w = w / 65536 % 65536
@@ -115,6 +111,6 @@ ownerWord a = wordOf (ownerSaid a .number) 0 (valueAt (ownerSaid a) 0) 0
 abbrev pub writtenWord : Written → ℕ
 writtenWord a = wordOf (writtenSaid a .number) 0 0 (valueAt (writtenSaid a) 0)
 
--- A yes says so in the flags, and has the operation as the low number.
+-- Force says yes in the flags, and has the operation as the low number.
 abbrev pub forceWord : ForceAnswer → ℕ
 forceWord a = wordOf (forceSaid a .number) (forceFlags a) (valueAt (forceSaid a) 1) 0

@@ -1,4 +1,4 @@
-// The calls for kernels in C and Rust, and those of the window, the writer, the game and the ring desk: each answer is one word.
+// The calls for kernels in C and Rust, with those of the window, the writer, force and the ring desk: each answer is one word.
 use cells::bit;
 use cells::ceiling;
 use cells::ceiling::Ceiling;
@@ -152,7 +152,7 @@ fn written_word(answer: Written) -> u64
     }
 }
 
-// The word of who can force it.
+// The word of force.
 fn force_word(answer: ForceAnswer) -> u64
     ensures { λ r. ⌜ r ≡ forceWord answer ⌝ }
 {

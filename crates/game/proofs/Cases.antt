@@ -1,4 +1,4 @@
--- The cases of who can force it hold.
+-- The cases of force hold.
 use mathlib.Core.Path.{_≡_, refl}
 use mathlib.Core.List.{map}
 use Rattle.laws.specs.Below.{allBelow, anyBelow}

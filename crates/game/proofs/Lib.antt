@@ -1,7 +1,6 @@
 pub mod Turns
 pub mod Questions
 pub mod Forced
-pub mod Choices
 pub mod Plays
 pub mod Strategies
 pub mod Theorem

@@ -6,14 +6,15 @@ use Prim.Native.Nat.{ℕ, zero, suc, _-_, _<_}
 use native.Mathlib.Omega.{arith}
 use borrow.Author.Tests.{eq-eqb, eqb-true, not-true}
 use lib.ListN.{length, length-append}
-use Rattle.laws.proofs.Below.{all-at, none-at}
+use Rattle.laws.proofs.Below.{all-at, none-at, some-fails}
+use Rattle.laws.proofs.Choice.{choice}
 use Rattle.laws.proofs.Clash.{clash}
+use Rattle.laws.proofs.Lowest.{choose, choose-holds}
 use Rattle.table.specs.declared.Shape.{Shape}
 use Rattle.reach.specs.Walk.{nextOf, walk}
 use Rattle.reach.proofs.Search.{walk-more}
 use Rattle.game.specs.Turns.{isTarget, ours, theirs}
 use Rattle.game.specs.Play.{Strategy, Legal, jackMoves, play, Target}
-use Rattle.game.proofs.Choices.{choose, choose-holds, some-fails}
 use Rattle.game.proofs.Turns.{toTheirs, toOurs, ours-target, theirs-target, ours-none, theirs-none, ours-more, theirs-more}
 
 -- A target, as a test and as a fact.
@@ -36,6 +37,21 @@ pub play-length : (jack link : Strategy) (made : ℕ) → length (play jack link
 unfolding play
 play-length jack link zero = refl
 play-length jack link (suc made) = length-append (play jack link made) _ ∙ omega (arith, play-length jack link made)
+
+-- The operation of a move, and the state after so many.
+abbrev pub moveOf : (jack link : Strategy) → ℕ → ℕ
+moveOf jack link made = cond (jackMoves made) (jack (play jack link made)) (link (play jack link made))
+
+abbrev pub after : (file : List ℕ) (shape : Shape) (state : ℕ) (jack link : Strategy) → ℕ → ℕ
+after file shape state jack link made = walk file shape state (play jack link made)
+
+pub move-legal : (shape : Shape) (jack link : Strategy) → Legal shape jack → Legal shape link → (made : ℕ) → moveOf jack link made < shape .operations
+move-legal shape jack link jack-legal link-legal made = choice (λ o. o < shape .operations) (jackMoves made) _ _ (jack-legal (play jack link made)) (link-legal (play jack link made))
+
+after-more : (file : List ℕ) (shape : Shape) (state : ℕ) (jack link : Strategy) (made : ℕ)
+    → after file shape state jack link (suc made) ≡ nextOf file shape (after file shape state jack link made) (moveOf jack link made)
+unfolding play
+after-more file shape state jack link made = walk-more file shape state (play jack link made) (moveOf jack link made)
 
 -- ---- One move
 
@@ -92,35 +108,18 @@ module _ (file : List ℕ) (shape : Shape) (targets : List ℕ) where
   -- ---- A play
 
   module _ (moves state : ℕ) (jack link : Strategy) where
-    -- The state after so many moves, the operation of the next one, and the turn.
-    abbrev pub after : ℕ → ℕ
-    after made = walk file shape state (play jack link made)
-
-    abbrev pub moveOf : ℕ → ℕ
-    moveOf made = cond (jackMoves made) (jack (play jack link made)) (link (play jack link made))
-
+    -- The turn after so many moves.
     abbrev pub turnAt : ℕ → Bool
-    turnAt made = turn (jackMoves made) (moves - made) (after made)
-
-    pub move-legal : Legal shape jack → Legal shape link → (made : ℕ) → moveOf made < shape .operations
-    move-legal jack-legal link-legal made = by (jackMoves made)
-      where
-        by : (b : Bool) → cond b (jack (play jack link made)) (link (play jack link made)) < shape .operations
-        by true = jack-legal (play jack link made)
-        by false = link-legal (play jack link made)
+    turnAt made = turn (jackMoves made) (moves - made) (after file shape state jack link made)
 
     -- After the opening it is the link's turn.
     pub first-turn : turnAt 1 ≡ toTheirs file shape targets (moves - 1) state (jack [])
     unfolding jackMoves play
     first-turn = refl
 
-    after-more : (made : ℕ) → after (suc made) ≡ nextOf file shape (after made) (moveOf made)
-    unfolding play
-    after-more made = walk-more file shape state (play jack link made) (moveOf made)
-
-    pub turn-more : (made : ℕ) → turnAt (suc made) ≡ turnAfter (jackMoves made) (moves - suc made) (after made) (moveOf made)
+    pub turn-more : (made : ℕ) → turnAt (suc made) ≡ turnAfter (jackMoves made) (moves - suc made) (after file shape state jack link made) (moveOf jack link made)
     unfolding jackMoves
-    turn-more made = ap (turn (not (jackMoves made)) (moves - suc made)) (after-more made)
+    turn-more made = ap (turn (not (jackMoves made)) (moves - suc made)) (after-more file shape state jack link made)
 
-    pub turn-left : (made : ℕ) → made < moves → turnAt made ≡ turn (jackMoves made) (suc (moves - suc made)) (after made)
-    turn-left made h = let one : moves - made ≡ suc (moves - suc made) = omega (arith, h) in ap (λ k. turn (jackMoves made) k (after made)) one
+    pub turn-left : (made : ℕ) → made < moves → turnAt made ≡ turn (jackMoves made) (suc (moves - suc made)) (after file shape state jack link made)
+    turn-left made h = let one : moves - made ≡ suc (moves - suc made) = omega (arith, h) in ap (λ k. turn (jackMoves made) k (after file shape state jack link made)) one

@@ -1,26 +1,22 @@
 -- The tests of a question say what it means that it is in range.
-use mathlib.Core.Path.{_≡_, refl}
-use mathlib.Core.Bool.{Bool, true, false, _&&_, and-eq-true-iff}
+use mathlib.Core.Path.{_≡_}
+use mathlib.Core.Bool.{true, false, and-eq-true-iff, and-false}
 use mathlib.Core.List.{List}
 use Prim.Native.Nat.{ℕ, _<_, _≤_}
 use native.Mathlib.Omega.{arith}
 use borrow.Author.Tests.{leb-true, ltb-true, eqb-true, le-leb, lt-leb, lt-ltb, eq-eqb}
-use lib.Dec.{leb, eqb}
+use lib.Dec.{leb}
 use lib.ListN.{length, getD}
 use Rattle.laws.proofs.Below.{all-at, all-of, not-all}
 use Rattle.table.specs.declared.Shape.{Shape}
 use Rattle.game.specs.Force.{targetsFit, questionFits}
 use Rattle.game.specs.Statement.{Asked}
 
-and-no : (a b : Bool) → b ≡ false → (a && b) ≡ false
-and-no true b e = e
-and-no false b e = refl
-
 module _ (shape : Shape) (targets : List ℕ) where
   -- A byte over 1 is enough.
   pub byte-unfit : (state : ℕ) → state < length targets → 1 < getD targets state 0 → targetsFit shape targets ≡ false
   unfolding targetsFit
-  byte-unfit state h over = and-no (eqb (length targets) (shape .states)) _ (not-all (length targets) (λ k. leb (getD targets k 0) 1) state h (lt-leb _ _ over))
+  byte-unfit state h over = simp (not-all (length targets) (λ k. leb (getD targets k 0) 1) state h (lt-leb _ _ over), and-false)
 
   pub bytes-fit : length targets ≡ shape .states → ((k : ℕ) → k < length targets → leb (getD targets k 0) 1 ≡ true) → targetsFit shape targets ≡ true
   unfolding targetsFit

@@ -8,11 +8,11 @@ use Prim.Native.Nat.{ℕ, zero, suc, _-_, _<_, _≤_}
 use native.Mathlib.Omega.{arith}
 use lib.ListN.{length}
 use Rattle.laws.proofs.Clash.{clash}
+use Rattle.laws.proofs.Lowest.{choose-below}
 use Rattle.table.specs.declared.Shape.{Shape}
 use Rattle.reach.specs.Walk.{walk}
 use Rattle.game.specs.Turns.{isTarget}
 use Rattle.game.specs.Play.{Strategy, Legal, jackMoves, play, Target, Meets, Forces, Avoids}
-use Rattle.game.proofs.Choices.{choose-legal}
 use Rattle.game.proofs.Turns.{toTheirs}
 use Rattle.game.proofs.Plays.{target-tested, tested-target, play-length, turn, lost-target, won-target, wins, spoils, won-after, lost-after, after, moveOf, turnAt, move-legal, first-turn, turn-more, turn-left}
 
@@ -26,7 +26,7 @@ module _ (file : List ℕ) (shape : Shape) (targets : List ℕ) (some-operation 
 
   winning-legal : (opens : ℕ) → opens < shape .operations → Legal shape (winning opens)
   winning-legal opens known [] = known
-  winning-legal opens known (first ∷ rest) = choose-legal (shape .operations) _ some-operation
+  winning-legal opens known (first ∷ rest) = choose-below (shape .operations) _ some-operation
 
   winning-later : (opens made : ℕ) (history : List ℕ) → length history ≡ made → 1 ≤ made → winning opens history ≡ wins file shape targets (moves - suc made) (walk file shape state history)
   winning-later opens made [] e later = absurd (omega (arith, later, e))
@@ -36,21 +36,21 @@ module _ (file : List ℕ) (shape : Shape) (targets : List ℕ) (some-operation 
     abbrev MetOrWon : ℕ → Type 0
     MetOrWon made = Meets file shape targets made state (winning opens) link ⊎ (turnAt file shape targets moves state (winning opens) link made ≡ true)
 
-    best : (made : ℕ) → 1 ≤ made → jackMoves made ≡ true → moveOf file shape targets moves state (winning opens) link made ≡ wins file shape targets (moves - suc made) (after file shape targets moves state (winning opens) link made)
+    best : (made : ℕ) → 1 ≤ made → jackMoves made ≡ true → moveOf (winning opens) link made ≡ wins file shape targets (moves - suc made) (after file shape state (winning opens) link made)
     best made later e = simp e (winning-later opens made (play (winning opens) link made) (play-length (winning opens) link made) later)
 
     -- The next turn, if the last one is won.
     goes-on : (made : ℕ) → 1 ≤ made → made < moves → turnAt file shape targets moves state (winning opens) link made ≡ true → MetOrWon (suc made)
-    goes-on made later h y = by (isTarget targets (after file shape targets moves state (winning opens) link made)) refl
+    goes-on made later h y = by (isTarget targets (after file shape state (winning opens) link made)) refl
       where
-        by : (b : Bool) → isTarget targets (after file shape targets moves state (winning opens) link made) ≡ b → MetOrWon (suc made)
+        by : (b : Bool) → isTarget targets (after file shape state (winning opens) link made) ≡ b → MetOrWon (suc made)
         by true t = inl (made, omega arith, tested-target targets _ t)
         by false n =
             inr
             (turn-more file shape targets moves state (winning opens) link made
             ∙ won-after file shape targets (jackMoves made) (moves - suc made) _ _ n
             (sym (turn-left file shape targets moves state (winning opens) link made h) ∙ y)
-            (move-legal file shape targets moves state (winning opens) link (winning-legal opens known) legal made)
+            (move-legal shape (winning opens) link (winning-legal opens known) legal made)
             (best made later))
 
     -- A target has been met, or the turn is won.
@@ -66,7 +66,7 @@ module _ (file : List ℕ) (shape : Shape) (targets : List ℕ) (some-operation 
         at-the-end : turnAt file shape targets moves state (winning opens) link moves ≡ true → Meets file shape targets moves state (winning opens) link
         at-the-end y =
             let none : moves - moves ≡ 0 = omega arith in
-            let s = after file shape targets moves state (winning opens) link moves in
+            let s = after file shape state (winning opens) link moves in
             (moves, omega arith, tested-target targets s (won-target file shape targets (jackMoves moves) s (ap (λ k. turn file shape targets (jackMoves moves) k s) (sym none) ∙ y)))
 
   pub forces : (opens : ℕ) → opens < shape .operations → toTheirs file shape targets (moves - 1) state opens ≡ true → Forces file shape targets moves state opens
@@ -79,11 +79,11 @@ module _ (file : List ℕ) (shape : Shape) (targets : List ℕ) (some-operation 
   spoiling history = spoils file shape targets (moves - suc (length history)) (walk file shape state history)
 
   spoiling-legal : Legal shape spoiling
-  spoiling-legal history = choose-legal (shape .operations) _ some-operation
+  spoiling-legal history = choose-below (shape .operations) _ some-operation
 
   module _ (jack : Strategy) (legal : Legal shape jack) (lost : toTheirs file shape targets (moves - 1) state (jack []) ≡ false) where
-    worst : (made : ℕ) → jackMoves made ≡ false → moveOf file shape targets moves state jack spoiling made ≡ spoils file shape targets (moves - suc made) (after file shape targets moves state jack spoiling made)
-    worst made e = simp e (ap (λ k. spoils file shape targets (moves - suc k) (after file shape targets moves state jack spoiling made)) (play-length jack spoiling made))
+    worst : (made : ℕ) → jackMoves made ≡ false → moveOf jack spoiling made ≡ spoils file shape targets (moves - suc made) (after file shape state jack spoiling made)
+    worst made e = simp e (ap (λ k. spoils file shape targets (moves - suc k) (after file shape state jack spoiling made)) (play-length jack spoiling made))
 
     -- No turn after the opening is won.
     spoilt : (made : ℕ) → 1 ≤ made → made ≤ moves → turnAt file shape targets moves state jack spoiling made ≡ false
@@ -93,7 +93,7 @@ module _ (file : List ℕ) (shape : Shape) (targets : List ℕ) (some-operation 
         turn-more file shape targets moves state jack spoiling (suc made)
         ∙ lost-after file shape targets (jackMoves (suc made)) (moves - suc (suc made)) _ _
         (sym (turn-left file shape targets moves state jack spoiling (suc made) (omega arith)) ∙ spoilt (suc made) (omega arith) (omega arith))
-        (move-legal file shape targets moves state jack spoiling legal spoiling-legal (suc made))
+        (move-legal shape jack spoiling legal spoiling-legal (suc made))
         (worst (suc made))
 
     never-met : isTarget targets state ≡ false → Meets file shape targets moves state jack spoiling → ⊥

@@ -29,7 +29,7 @@ use Rattle.game.specs.declared.ForceAnswer.the-variants.{Reached, Wins, 
 use Rattle.game.specs.Turns.{isTarget, ours, theirs}
 use Rattle.game.specs.Force.{questionFits, found, turnOf, isYes, forceOf, forceSaid}
 use Rattle.game.specs.Play.{Target, Forces, Avoids}
-use Rattle.game.specs.Statement.{Asked, ForceRefused, ForceAnswered, AnsweredByStrategies, NotBoth, Yes, StaysYes, AskedAgain}
+use Rattle.game.specs.Statement.{Asked, ForceRefused, ForceAnswered, AnsweredByStrategies, NotBoth, SaysYes, Yes, StaysYes, AskedAgain}
 use Rattle.game.proofs.Turns.{toTheirs, toOurs, ours-none, theirs-none, reached, turn-some, theirs-more, yes-ours}
 use Rattle.game.proofs.Questions.{fits-asked, asked-fits}
 use Rattle.game.proofs.Forced.{forced-refused, forced-unfit, forced-turn}
@@ -112,7 +112,7 @@ module _ (file : List ℕ) (shape : Shape) (state : ℕ) (targets : List ℕ) (m
         by false t = refl
 
     turn-is : turnOf file shape targets moves state ≡ found (shape .operations) lowest
-    turn-is = turn-some file shape targets moves state none (λ z. omega (arith, z, asked .some))
+    turn-is = turn-some file shape targets moves state none (asked .some)
 
     at-opening : ltb lowest (shape .operations) ≡ true → ForceAnswered file shape state targets moves
     at-opening t =
@@ -216,23 +216,25 @@ module _ (file : List ℕ) (state : ℕ) (targets : List ℕ) (moves : ℕ) wher
   -- ---- What follows for a planner
 
   -- A question that is answered is in range.
-  known-asked : {v : ℕ} {vs : List ℕ} → said ≡ accepted (v ∷ vs) → (shape : Shape) × (checkOf file ≡ table.Accepted shape) × Asked shape state targets moves
+  abbrev InRange : Type 0
+  InRange = (shape : Shape) × (checkOf file ≡ table.Accepted shape) × Asked shape state targets moves
+
+  known-asked : {v : ℕ} {vs : List ℕ} → said ≡ accepted (v ∷ vs) → InRange
   known-asked {v} {vs} f = by (checkOf file) refl
     where
       answered : {cause : Refusal} {A : Type 0} → forceOf file state targets moves ≡ Refused cause → A
       answered r = let z : 0 ≡ suc (length vs) = ap (λ (s : Said). length (s .values)) (sym (ap forceSaid r) ∙ f) in absurd (omega arith)
 
-      asked : (shape : Shape) → checkOf file ≡ table.Accepted shape → (b : Bool) → questionFits shape state targets moves ≡ b
-          → (shape : Shape) × (checkOf file ≡ table.Accepted shape) × Asked shape state targets moves
+      asked : (shape : Shape) → checkOf file ≡ table.Accepted shape → (b : Bool) → questionFits shape state targets moves ≡ b → InRange
       asked shape e true fits = (shape, e, fits-asked shape targets state moves fits)
       asked shape e false unfit = answered (forced-unfit file state targets moves shape e unfit)
 
-      by : (checked : Checked) → checkOf file ≡ checked → (shape : Shape) × (checkOf file ≡ table.Accepted shape) × Asked shape state targets moves
+      by : (checked : Checked) → checkOf file ≡ checked → InRange
       by (table.Refused cause) e = answered (forced-refused file state targets moves cause e)
       by (table.Accepted shape) e = asked shape e (questionFits shape state targets moves) refl
 
 -- A yes of a turn is a yes of the call.
-yes-said : (a : ForceAnswer) → isYes a ≡ true → (forceSaid a ≡ accepted (1 ∷ [])) ⊎ ((operation : ℕ) × (forceSaid a ≡ accepted (1 ∷ operation ∷ [])))
+yes-said : (a : ForceAnswer) → isYes a ≡ true → SaysYes (forceSaid a)
 yes-said Reached e = inl refl
 yes-said (Wins operation) e = inr (operation, refl)
 yes-said Loses e = clash e refl
@@ -244,7 +246,7 @@ forces-more f = record { jack = f .jack; legal = f .legal; opens = f .opens; mee
 
 module _ (file : List ℕ) (shape : Shape) (state : ℕ) (targets : List ℕ) (moves : ℕ) (e : checkOf file ≡ table.Accepted shape) (asked : Asked shape state targets moves) where
   turn-yes : isYes (turnOf file shape targets moves state) ≡ true → Yes file state targets moves
-  turn-yes y = subst (λ a. (forceSaid a ≡ accepted (1 ∷ [])) ⊎ ((operation : ℕ) × (forceSaid a ≡ accepted (1 ∷ operation ∷ [])))) (sym (answer-is file shape state targets moves e asked)) (yes-said (turnOf file shape targets moves state) y)
+  turn-yes y = subst (λ a. SaysYes (forceSaid a)) (sym (answer-is file shape state targets moves e asked)) (yes-said (turnOf file shape targets moves state) y)
 
   -- Where something forces a target, the answer is yes.
   forced-yes : (operation : ℕ) → operation < shape .operations → Forces file shape targets moves state operation → Yes file state targets moves
@@ -302,7 +304,7 @@ asked-again file shape state targets left operation e won =
     replies-won file shape state targets (left + 1) e asked left (nextOf file shape state operation) (omega arith) (accepted-next file shape e state operation (asked .known) known)
     (ap (λ k. toTheirs file shape targets k state operation) (sym one) ∙ forced-wins file shape state targets (left + 1) e asked none operation forced)
 
--- An operation that is answered is one of the table's, and the other answers have none.
+-- The operation of an answer, 0 where there is none, fits 16 bits.
 pub operation-below : (file : List ℕ) (state : ℕ) (targets : List ℕ) (moves : ℕ) → getD (forceSaid (forceOf file state targets moves) .values) 1 0 < 65536
 operation-below file state targets moves = by (forceOf file state targets moves) refl
   where

@@ -2,15 +2,15 @@
 use mathlib.Core.Path.{_≡_, refl, sym, ap, _∙_}
 use mathlib.Core.Bool.{Bool, true, false, cond}
 use mathlib.Core.List.{List}
-use Prim.Native.Nat.{ℕ, zero, suc, _-_, _<_}
-use native.Mathlib.Numerals.{sub-one}
+use Prim.Native.Nat.{ℕ, zero, suc, _-_, _<_, _≤_}
 use native.Mathlib.Omega.{arith}
-use borrow.Author.Tests.{lt-ltb, ltb-true, ltb-false, le-ltb}
+use borrow.Author.Tests.{lt-ltb, le-ltb}
 use lib.Dec.{ltb}
 use Rattle.laws.specs.Below.{allBelow, anyBelow}
 use Rattle.laws.specs.Lowest.{lowestBelow}
-use Rattle.laws.proofs.Below.{all-of, not-all, any-of, not-any}
-use Rattle.laws.proofs.Lowest.{lowest-at, lowest-none, lowest-found}
+use Rattle.laws.proofs.Below.{all-of, not-all}
+use Rattle.laws.proofs.Lowest.{lowest-at, lowest-none, lowest-any}
+use Rattle.laws.proofs.Positive.{from-one}
 use Rattle.table.specs.declared.Shape.{Shape}
 use Rattle.reach.specs.Walk.{nextOf}
 use Rattle.game.specs.declared.ForceAnswer.the-variants.{Reached, Wins, Loses}
@@ -72,20 +72,13 @@ module _ (file : List ℕ) (shape : Shape) (targets : List ℕ) where
 
   -- ---- By the operations, as the loops go through them
 
-  module _ (left state : ℕ) (no-target : isTarget targets state ≡ false) (some : left ≡ 0 → ⊥) where
+  module _ (left state : ℕ) (no-target : isTarget targets state ≡ false) (some : 1 ≤ left) where
     pub turn-some : turnOf file shape targets left state ≡ found (shape .operations) (lowestBelow (shape .operations) (toTheirs (left - 1) state))
-    turn-some = by left some
-      where
-        by : (k : ℕ) → (k ≡ 0 → ⊥) → turnOf file shape targets k state ≡ found (shape .operations) (lowestBelow (shape .operations) (toTheirs (k - 1) state))
-        by zero n = absurd (n refl)
-        by (suc k) n = rw sub-one (turn-more k state no-target)
+    turn-some =
+        from-one (λ k before. turnOf file shape targets k state ≡ found (shape .operations) (lowestBelow (shape .operations) (toTheirs before state))) (λ k. turn-more k state no-target) left some
 
     theirs-some : theirs file shape targets left state ≡ allBelow (shape .operations) (toOurs (left - 1) state)
-    theirs-some = by left some
-      where
-        by : (k : ℕ) → (k ≡ 0 → ⊥) → theirs file shape targets k state ≡ allBelow (shape .operations) (toOurs (k - 1) state)
-        by zero n = absurd (n refl)
-        by (suc k) n = rw sub-one (theirs-more k state no-target)
+    theirs-some = from-one (λ k before. theirs file shape targets k state ≡ allBelow (shape .operations) (toOurs before state)) (λ k. theirs-more k state no-target) left some
 
     -- The lowest operation that leads to a turn that is won, or none.
     pub turn-wins : (operation : ℕ) → operation < shape .operations → toTheirs (left - 1) state operation ≡ true
@@ -106,19 +99,12 @@ module _ (file : List ℕ) (shape : Shape) (targets : List ℕ) where
 
   -- ---- A turn of the jack console is won exactly if its answer is a yes
 
-  found-any : (test : ℕ → Bool) → isYes (found (shape .operations) (lowestBelow (shape .operations) test)) ≡ anyBelow (shape .operations) test
-  found-any test = by (ltb k (shape .operations)) refl
+  found-yes : (operation : ℕ) → isYes (found (shape .operations) operation) ≡ ltb operation (shape .operations)
+  found-yes operation = by (ltb operation (shape .operations))
     where
-      k : ℕ
-      k = lowestBelow (shape .operations) test
-
-      by : (b : Bool) → ltb k (shape .operations) ≡ b → isYes (cond b (Wins k) Loses) ≡ anyBelow (shape .operations) test
-      by true e =
-          let h = ltb-true k (shape .operations) e in
-          sym (any-of (shape .operations) test k h (lowest-found (shape .operations) test .holds h))
-      by false e =
-          let h = ltb-false k (shape .operations) e in
-          sym (not-any (shape .operations) test (λ j l. lowest-found (shape .operations) test .lower j (omega arith)))
+      by : (b : Bool) → isYes (cond b (Wins operation) Loses) ≡ b
+      by true = refl
+      by false = refl
 
   pub yes-ours : (left state : ℕ) → isYes (turnOf file shape targets left state) ≡ ours file shape targets left state
   yes-ours left state = by (isTarget targets state) refl left
@@ -126,4 +112,4 @@ module _ (file : List ℕ) (shape : Shape) (targets : List ℕ) where
       by : (b : Bool) → isTarget targets state ≡ b → (k : ℕ) → isYes (turnOf file shape targets k state) ≡ ours file shape targets k state
       by true e k = ap isYes (reached k state e) ∙ sym (ours-target k state e)
       by false e zero = ap isYes (turn-none state e) ∙ sym (ours-none state ∙ e)
-      by false e (suc k) = ap isYes (turn-more k state e) ∙ found-any (toTheirs k state) ∙ sym (ours-more k state e)
+      by false e (suc k) = ap isYes (turn-more k state e) ∙ found-yes _ ∙ lowest-any (shape .operations) (toTheirs k state) ∙ sym (ours-more k state e)

@@ -39,8 +39,8 @@ asked file state targets moves said = record { given = forceSaid (forceOf file s
 abbrev wins : ℕ → Said
 wins operation = accepted (1 ∷ operation ∷ [])
 
-abbrev isReached : Said
-isReached = accepted (1 ∷ [])
+abbrev reached : Said
+reached = accepted (1 ∷ [])
 
 abbrev loses : Said
 loses = accepted (0 ∷ [])
@@ -53,7 +53,7 @@ forceCases =
     ∷ asked flag 0 oneOfTwo 3 (wins 0)
     ∷ asked flag 0 oneOfTwo 4 (wins 0)
     -- A target at the outset, and no target.
-    ∷ asked flag 1 oneOfTwo 4 isReached
+    ∷ asked flag 1 oneOfTwo 4 reached
     ∷ asked flag 0 noTarget 4 loses
     -- The link is driven into the target by its own move.
     ∷ asked driven 0 lastOfThree 1 loses

@@ -29,7 +29,7 @@ targetsFit shape targets = eqb (length targets) (shape .states) && allBelow (len
 unfoldable pub questionFits : Shape → (state : ℕ) (targets : List ℕ) (moves : ℕ) → Bool
 questionFits shape state targets moves = leb 1 moves && leb moves mostMoves && ltb state (shape .states) && targetsFit shape targets
 
--- The operation that was found below their number, or none.
+-- A win by the operation if it is one of so many, else a loss.
 abbrev pub found : (operations operation : ℕ) → ForceAnswer
 found operations operation = cond (ltb operation operations) (Wins operation) Loses
 

@@ -4,7 +4,7 @@ use mathlib.Core.Logic.{_↔_, _⊎_}
 use mathlib.Core.List.{List, [], _∷_}
 use Prim.Native.Nat.{ℕ, _+_, _-_, _<_, _≤_}
 use lib.ListN.{length, getD}
-use Rattle.refusal.specs.Number.{accepted, refusedBy}
+use Rattle.refusal.specs.Number.{Said, accepted, refusedBy}
 use Rattle.table.specs.declared.Shape.{Shape}
 use Rattle.table.specs.declared.Checked.the-variants.{Accepted}
 use Rattle.table.specs.Check.{checkOf, checkSaid}
@@ -32,13 +32,15 @@ pub record ForceRefused (file : List ℕ) (state : ℕ) (targets : List ℕ) (mo
 
 -- ---- What is answered
 
--- The answer is yes: with no move, or with an operation.
-abbrev pub Yes : (file : List ℕ) (state : ℕ) (targets : List ℕ) (moves : ℕ) → Type 0
-Yes file state targets moves =
-    (forceSaid (forceOf file state targets moves) ≡ accepted (1 ∷ []))
-    ⊎ ((operation : ℕ) × (forceSaid (forceOf file state targets moves) ≡ accepted (1 ∷ operation ∷ [])))
+-- What is said is yes: with no move, or with an operation.
+abbrev pub SaysYes : Said → Type 0
+SaysYes said = (said ≡ accepted (1 ∷ [])) ⊎ ((operation : ℕ) × (said ≡ accepted (1 ∷ operation ∷ [])))
 
--- The answers to a question about an accepted table, each exactly by the strategies.
+-- The call answers yes.
+abbrev pub Yes : (file : List ℕ) (state : ℕ) (targets : List ℕ) (moves : ℕ) → Type 0
+Yes file state targets moves = SaysYes (forceSaid (forceOf file state targets moves))
+
+-- The answers to a question in range about an accepted table.
 pub record ForceAnswered (file : List ℕ) (shape : Shape) (state : ℕ) (targets : List ℕ) (moves : ℕ) : Type 0 where
   -- Yes with no move, exactly if the state is a target.
   pub reached : (forceSaid (forceOf file state targets moves) ≡ accepted (1 ∷ [])) ↔ Target targets state
@@ -53,7 +55,7 @@ pub record ForceAnswered (file : List ℕ) (shape : Shape) (state : ℕ) (target
   -- Nothing else is answered.
   pub only : Yes file state targets moves ⊎ (forceSaid (forceOf file state targets moves) ≡ accepted (0 ∷ []))
 
--- The three equivalences.
+-- Every question in range about an accepted table is answered so.
 abbrev pub AnsweredByStrategies : Type 0
 AnsweredByStrategies = (file : List ℕ) (shape : Shape) (state : ℕ) (targets : List ℕ) (moves : ℕ)
     → checkOf file ≡ Accepted shape → Asked shape state targets moves → ForceAnswered file shape state targets moves

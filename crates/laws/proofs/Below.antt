@@ -1,10 +1,11 @@
 -- Laws of a test at every number below a bound, and at some number below it.
 use mathlib.Core.Path.{_≡_, refl, sym, ap, _∙_}
-use mathlib.Core.Bool.{Bool, true, false, _||_, and-eq-true-iff, or-true}
+use mathlib.Core.Bool.{Bool, true, false, not, _||_, and-eq-true-iff, or-true}
 use mathlib.Core.Logic.{_⊎_, ⊎-elim}
 use Prim.Native.Nat.{ℕ, zero, suc, _<_}
 use native.Mathlib.Nat.{not-suc-le-zero, eq-or-lt-of-le, le-of-suc-le-suc}
 use native.Mathlib.Omega.{arith}
+use borrow.Author.Tests.{not-false}
 use Rattle.laws.specs.Below.{allBelow, anyBelow}
 
 last-or-below : (k n : ℕ) → k < suc n → (k ≡ n) ⊎ (k < n)
@@ -55,3 +56,11 @@ none-at n test e k h = by (test k) refl
     by : (b : Bool) → test k ≡ b → b ≡ false
     by true q = sym (any-of n test k h q) ∙ e
     by false q = refl
+
+-- What does not hold everywhere fails somewhere.
+pub some-fails : (n : ℕ) (test : ℕ → Bool) → allBelow n test ≡ false → anyBelow n (λ k. not (test k)) ≡ true
+some-fails n test e = by (anyBelow n (λ k. not (test k))) refl
+  where
+    by : (b : Bool) → anyBelow n (λ k. not (test k)) ≡ b → b ≡ true
+    by true q = refl
+    by false q = sym e ∙ all-of n test (λ k h. not-false _ (none-at n (λ k. not (test k)) q k h))

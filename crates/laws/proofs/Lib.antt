@@ -9,4 +9,5 @@ pub mod Tabulate
 pub mod Places
 pub mod Sums
 pub mod Lowest
+pub mod Positive
 pub mod Joined

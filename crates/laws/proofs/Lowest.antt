@@ -1,9 +1,13 @@
 -- The lowest number at which a test holds: what it is where the test is known, and what is known of the test where it is.
-use mathlib.Core.Path.{_≡_, refl, ap}
+use mathlib.Core.Path.{_≡_, refl, sym, ap, _∙_}
 use mathlib.Core.Bool.{Bool, true, false, cond}
 use Prim.Native.Nat.{ℕ, zero, suc, _<_, _≤_}
 use native.Mathlib.Omega.{arith}
+use borrow.Author.Tests.{ltb-true, ltb-false}
+use lib.Dec.{ltb}
+use Rattle.laws.specs.Below.{anyBelow}
 use Rattle.laws.specs.Lowest.{lowestBelow}
+use Rattle.laws.proofs.Below.{any-of, not-any}
 
 -- The test holds at k and at no lower number.
 pub lowest-at : (n : ℕ) (test : ℕ → Bool) (k : ℕ) → k < n → test k ≡ true → ((j : ℕ) → j < k → test j ≡ false) → lowestBelow n test ≡ k
@@ -40,3 +44,34 @@ lowest-found (suc n) test = by (test zero) refl (lowest-found n (λ k. test (suc
         let k : ℕ = lowestBelow n (λ k. test (suc k)) in
         let b : k ≤ n = found .bounded in
         record { bounded = omega arith; holds = λ h. found .holds (omega arith); lower = later k e found }
+
+-- A number below the bound is found exactly if the test holds at some.
+pub lowest-any : (n : ℕ) (test : ℕ → Bool) → ltb (lowestBelow n test) n ≡ anyBelow n test
+lowest-any n test = by (ltb (lowestBelow n test) n) refl
+  where
+    by : (b : Bool) → ltb (lowestBelow n test) n ≡ b → b ≡ anyBelow n test
+    by true e =
+        let h = ltb-true _ _ e in
+        sym (any-of n test (lowestBelow n test) h (lowest-found n test .holds h))
+    by false e =
+        let past : n ≤ lowestBelow n test = ltb-false _ _ e in
+        sym (not-any n test (λ k h. lowest-found n test .lower k (omega arith)))
+
+-- The lowest number at which the test holds, or 0 if there is none.
+unfoldable pub choose : (n : ℕ) → (ℕ → Bool) → ℕ
+choose n test = cond (ltb (lowestBelow n test) n) (lowestBelow n test) 0
+
+module _ (n : ℕ) (test : ℕ → Bool) where
+  -- It is below the bound, if any number is.
+  pub choose-below : 1 ≤ n → choose n test < n
+  unfolding choose
+  choose-below some = by (ltb (lowestBelow n test) n) refl
+    where
+      by : (b : Bool) → ltb (lowestBelow n test) n ≡ b → cond b (lowestBelow n test) 0 < n
+      by true e = ltb-true _ _ e
+      by false e = some
+
+  -- The test holds at it, if it holds at some number below the bound.
+  pub choose-holds : anyBelow n test ≡ true → test (choose n test) ≡ true
+  unfolding choose
+  choose-holds any = let below = lowest-any n test ∙ any in simp below (lowest-found n test .holds (ltb-true _ _ below))

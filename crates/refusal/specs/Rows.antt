@@ -49,6 +49,6 @@ rows =
     ∷ row Unacknowledged 17
     -- The window's command is not 0 to 3, or the windows are not 8 bytes for each task.
     ∷ row Window 18
-    -- Who can force it: moves, state, or the targets' length or a byte of them, out of range.
+    -- Force: moves, state, or the targets' length or a byte of them, out of range.
     ∷ row Question 19
     ∷ []

@@ -40,7 +40,7 @@ pub enum Refusal {
     Unacknowledged,
     // The window's command is not 0 to 3, or the windows are not eight bytes for each task.
     Window,
-    // Who can force it: the moves, the state, or the targets' length or a byte of them are out of range.
+    // Force: the moves, the state, or the targets' length or a byte of them are out of range.
     Question,
 }
 

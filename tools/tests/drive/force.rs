@@ -197,7 +197,7 @@ fn one_way_out_is_enough_for_the_link() {
     for moves in ["2", "3", "4"] {
         let kept = said(
             &format!("{moves} moves"),
-            "whatever it does, the surface link can keep away",
+            "no operation that it may open with does",
         );
         assert_eq!(ask(&table, &["0", moves, "2"]).no(), kept);
     }

@@ -113,7 +113,7 @@ impl Question {
             Force::Loses => {
                 let why = match self.moves {
                     1 => "no operation leads there",
-                    _ => "whatever it does, the surface link can keep away",
+                    _ => "no operation that it may open with does",
                 };
                 let targets = self.target_words("any of");
                 format!("no: from state {from} the jack console can't force {targets} within {within}: {why}")

@@ -1,4 +1,4 @@
--- The exported question: the word of the game's answer.
+-- The exported force: the word of the game's answer.
 use borrow.Author.Needs.{needs}
 use Rattle.drive_object.proofs.drive_force.Statement.{statement}
 use Rattle.drive_object.proofs.drive_force.Tie as tie

@@ -1,4 +1,4 @@
--- The word of who can force it.
+-- The word of force.
 use borrow.Author.Needs.{needs}
 use Rattle.drive_object.proofs.force_word.Statement.{statement}
 use Rattle.drive_object.proofs.force_word.Tie as tie

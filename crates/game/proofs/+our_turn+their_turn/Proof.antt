@@ -1,7 +1,7 @@
 -- The two turns call each other: the moves left fall, and each loop has found of the operations passed that they do not decide.
 use mathlib.Core.Path.{_≡_, refl, sym, ap, _∙_}
 use mathlib.Core.Bool.{true, false}
-use Prim.Native.Nat.{ℕ, zero, suc, _-_, _<_, _≤_}
+use Prim.Native.Nat.{ℕ, _-_, _<_, _≤_}
 use native.Mathlib.Omega.{arith}
 use borrow.Author.Count.{below-more}
 use borrow.Author.Needs.{needs}
@@ -23,11 +23,6 @@ use Rattle.game.proofs.is_target.Reads as is-target-reads
 use Rattle.game.proofs.is_yes.Reads as is-yes-reads
 use Rattle.game.proofs.+our_turn+their_turn.{statement}
 use Rattle.game.proofs.+our_turn+their_turn.Tie.{close}
-
--- A number other than 0.
-at-least-one : (k : ℕ) → (k ≡ 0 → ⊥) → 1 ≤ k
-at-least-one zero n = absurd (n refl)
-at-least-one (suc k) n = omega arith
 
 -- The moves left.
 abbrev μ-our-turn : Measures 2 our-turn-kinds.ps ℕ
@@ -60,7 +55,7 @@ their-turn-calls t = (is-target-reads.Asked, is-target-reads.Learnt, read-entry-
 -- No operation passed leads to a turn that is won.
 abbrev our-turn-Inv-loop : our-turn-lts.InvT-loop
 our-turn-Inv-loop file shape targets left state operations operation₀ operation =
-    (operations ≡ shape .operations) × (operation ≤ operations) × (isTarget targets state ≡ false) × (left ≡ 0 → ⊥)
+    (operations ≡ shape .operations) × (operation ≤ operations) × (isTarget targets state ≡ false) × (1 ≤ left)
     × ((k : ℕ) → k < operation → toTheirs file shape targets (left - 1) state k ≡ false)
 
 abbrev our-turn-μ-loop : our-turn-lts.MeasureT-loop
@@ -83,20 +78,16 @@ module _ (t : ℕ) where
 
   our-turn-loop-holds : our-turn-lts.Need-loop-holds (our-turn-calls t) (our-turn-at t) our-turn.Post our-turn-Inv-loop our-turn-μ-loop
   our-turn-loop-holds c =
-      (refl, omega arith, sym (c .before .before .is-target .ensures) ∙ c .before .if1 .left, c .if2 .left, λ k h. absurd (omega arith))
+      (refl, omega arith, sym (c .before .before .is-target .ensures) ∙ c .before .if1 .left, omega (arith, c .if2 .left), λ k h. absurd (omega arith))
 
   our-turn-read-entry-requires : our-turn-lts.Need-read-entry-requires (our-turn-calls t) (our-turn-at t) our-turn.Post our-turn-Inv-loop our-turn-μ-loop
   our-turn-read-entry-requires c κs = search needs
 
   our-turn-sub-their-turn : our-turn-lts.Need-sub-their-turn (our-turn-calls t) (our-turn-at t) our-turn.Post our-turn-Inv-loop our-turn-μ-loop
-  our-turn-sub-their-turn c =
-      let some = c .before .before .loop .inv .3 in
-      at-least-one _ some
+  our-turn-sub-their-turn c = c .before .before .loop .inv .3
 
   our-turn-their-turn-requires : our-turn-lts.Need-their-turn-requires (our-turn-calls t) (our-turn-at t) our-turn.Post our-turn-Inv-loop our-turn-μ-loop
-  our-turn-their-turn-requires c κs =
-      let some = c .before .before .loop .inv .3 in
-      (omega (arith, at-least-one _ some), tt)
+  our-turn-their-turn-requires c κs = let some = c .before .before .loop .inv .3 in (omega arith, tt)
 
   -- The turn that the operation led to.
   our-turn-led : (c : our-turn-lts.After-their-turn (our-turn-calls t) (our-turn-at t) our-turn.Post our-turn-Inv-loop our-turn-μ-loop) → let a = c .before .before .before .before .before .before .before .before .before .args in
@@ -133,7 +124,7 @@ module _ (t : ℕ) where
 -- Every operation passed leads to a turn that is won.
 abbrev their-turn-Inv-loop : their-turn-lts.InvT-loop
 their-turn-Inv-loop file shape targets left state operations operation₀ operation =
-    (operations ≡ shape .operations) × (operation ≤ operations) × (isTarget targets state ≡ false) × (left ≡ 0 → ⊥)
+    (operations ≡ shape .operations) × (operation ≤ operations) × (isTarget targets state ≡ false) × (1 ≤ left)
     × ((k : ℕ) → k < operation → toOurs file shape targets (left - 1) state k ≡ true)
 
 abbrev their-turn-μ-loop : their-turn-lts.MeasureT-loop
@@ -156,20 +147,16 @@ module _ (t : ℕ) where
 
   their-turn-loop-holds : their-turn-lts.Need-loop-holds (their-turn-calls t) (their-turn-at t) their-turn.Post their-turn-Inv-loop their-turn-μ-loop
   their-turn-loop-holds c =
-      (refl, omega arith, sym (c .before .before .is-target .ensures) ∙ c .before .if1 .left, c .if2 .left, λ k h. absurd (omega arith))
+      (refl, omega arith, sym (c .before .before .is-target .ensures) ∙ c .before .if1 .left, omega (arith, c .if2 .left), λ k h. absurd (omega arith))
 
   their-turn-read-entry-requires : their-turn-lts.Need-read-entry-requires (their-turn-calls t) (their-turn-at t) their-turn.Post their-turn-Inv-loop their-turn-μ-loop
   their-turn-read-entry-requires c κs = search needs
 
   their-turn-sub-our-turn : their-turn-lts.Need-sub-our-turn (their-turn-calls t) (their-turn-at t) their-turn.Post their-turn-Inv-loop their-turn-μ-loop
-  their-turn-sub-our-turn c =
-      let some = c .before .before .loop .inv .3 in
-      at-least-one _ some
+  their-turn-sub-our-turn c = c .before .before .loop .inv .3
 
   their-turn-our-turn-requires : their-turn-lts.Need-our-turn-requires (their-turn-calls t) (their-turn-at t) their-turn.Post their-turn-Inv-loop their-turn-μ-loop
-  their-turn-our-turn-requires c κs =
-      let some = c .before .before .loop .inv .3 in
-      (omega (arith, at-least-one _ some), tt)
+  their-turn-our-turn-requires c κs = let some = c .before .before .loop .inv .3 in (omega arith, tt)
 
   their-turn-is-yes-requires : their-turn-lts.Need-is-yes-requires (their-turn-calls t) (their-turn-at t) their-turn.Post their-turn-Inv-loop their-turn-μ-loop
   their-turn-is-yes-requires c κs = search needs
