@@ -1,11 +1,13 @@
 -- What becomes of a turn along a play: after a move it is the other side's, with one move less.
 use mathlib.Core.Path.{_≡_, refl, sym, ap, _∙_}
 use mathlib.Core.Bool.{Bool, true, false, not, cond}
-use mathlib.Core.List.{List, []}
-use Prim.Native.Nat.{ℕ, zero, suc, _-_, _<_}
+use mathlib.Core.List.{List, [], _∷_, _++_}
+use Prim.Native.Nat.{ℕ, zero, suc, _+_, _-_, _*_, _<_}
+use native.Mathlib.Numerals.{add-one}
 use native.Mathlib.Omega.{arith}
 use borrow.Author.Tests.{eq-eqb, eqb-true, not-true}
-use lib.ListN.{length, length-append}
+use lib.ListN.{length, getD, take, length-append}
+use lib.Seq.{take-at, getD-at}
 use Rattle.laws.proofs.Below.{all-at, none-at, some-fails}
 use Rattle.laws.proofs.Choice.{choice}
 use Rattle.laws.proofs.Clash.{clash}
@@ -15,6 +17,7 @@ use Rattle.reach.specs.Walk.{nextOf, walk}
 use Rattle.reach.proofs.Search.{walk-more}
 use Rattle.game.specs.Turns.{isTarget, ours, theirs}
 use Rattle.game.specs.Play.{Strategy, Legal, jackMoves, play, Target}
+use Rattle.game.specs.Statement.{PlaysInTurn}
 use Rattle.game.proofs.Turns.{toTheirs, toOurs, ours-target, theirs-target, ours-none, theirs-none, ours-more, theirs-more}
 
 -- A target, as a test and as a fact.
@@ -38,12 +41,39 @@ unfolding play
 play-length jack link zero = refl
 play-length jack link (suc made) = length-append (play jack link made) _ ∙ omega (arith, play-length jack link made)
 
+-- The jack console makes the moves at even places, and the link those at odd ones.
+jack-even : (k : ℕ) → jackMoves (2 * k) ≡ true
+unfolding jackMoves
+jack-even zero = refl
+jack-even (suc k) = let two : 2 * suc k ≡ suc (suc (2 * k)) = omega arith in ap jackMoves two ∙ ap (λ b. not (not b)) (jack-even k)
+
+link-odd : (k : ℕ) → jackMoves (2 * k + 1) ≡ false
+unfolding jackMoves
+link-odd k = ap jackMoves (add-one (2 * k)) ∙ ap not (jack-even k)
+
 -- The operation of a move, and the state after so many.
 abbrev pub moveOf : (jack link : Strategy) → ℕ → ℕ
 moveOf jack link made = cond (jackMoves made) (jack (play jack link made)) (link (play jack link made))
 
 abbrev pub after : (file : List ℕ) (shape : Shape) (state : ℕ) (jack link : Strategy) → ℕ → ℕ
 after file shape state jack link made = walk file shape state (play jack link made)
+
+-- It is added at the end.
+play-more : (jack link : Strategy) (made : ℕ) → play jack link (made + 1) ≡ play jack link made ++ (moveOf jack link made ∷ [])
+unfolding play
+play-more jack link made = ap (play jack link) (add-one made)
+
+made-last : (jack link : Strategy) (made : ℕ) → getD (play jack link (made + 1)) made 0 ≡ moveOf jack link made
+made-last jack link made = ap (λ h. getD h made 0) (play-more jack link made) ∙ getD-at (play jack link made) _ [] 0 made (play-length jack link made)
+
+pub plays-in-turn : PlaysInTurn
+plays-in-turn jack link =
+    record {
+      long = play-length jack link;
+      stands = λ made. ap (take made) (play-more jack link made) ∙ take-at (play jack link made) _ made (play-length jack link made);
+      even = λ k. made-last jack link (2 * k) ∙ simp (jack-even k);
+      odd = λ k. ap (λ n. getD (play jack link n) (2 * k + 1) 0) (omega arith) ∙ made-last jack link (2 * k + 1) ∙ simp (link-odd k);
+    }
 
 pub move-legal : (shape : Shape) (jack link : Strategy) → Legal shape jack → Legal shape link → (made : ℕ) → moveOf jack link made < shape .operations
 move-legal shape jack link jack-legal link-legal made = choice (λ o. o < shape .operations) (jackMoves made) _ _ (jack-legal (play jack link made)) (link-legal (play jack link made))

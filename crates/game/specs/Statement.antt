@@ -2,15 +2,15 @@
 use mathlib.Core.Path.{_≡_}
 use mathlib.Core.Logic.{_↔_, _⊎_}
 use mathlib.Core.List.{List, [], _∷_}
-use Prim.Native.Nat.{ℕ, _+_, _-_, _<_, _≤_}
-use lib.ListN.{length, getD}
+use Prim.Native.Nat.{ℕ, _+_, _-_, _*_, _<_, _≤_}
+use lib.ListN.{length, getD, take}
 use Rattle.refusal.specs.Number.{Said, accepted, refusedBy}
 use Rattle.table.specs.declared.Shape.{Shape}
 use Rattle.table.specs.declared.Checked.the-variants.{Accepted}
 use Rattle.table.specs.Check.{checkOf, checkSaid}
 use Rattle.reach.specs.Walk.{nextOf}
 use Rattle.game.specs.Force.{forceOf, forceSaid}
-use Rattle.game.specs.Play.{Target, Forces, Avoids}
+use Rattle.game.specs.Play.{Strategy, play, Target, Forces, Avoids}
 
 -- Moves, state and targets are in range: 1 to 4 moves, a state of the table, and a byte for each state that is 0 or 1.
 pub record Asked (shape : Shape) (state : ℕ) (targets : List ℕ) (moves : ℕ) : Type 0 where
@@ -19,6 +19,19 @@ pub record Asked (shape : Shape) (state : ℕ) (targets : List ℕ) (moves : ℕ
   pub known : state < shape .states
   pub long : length targets ≡ shape .states
   pub bits : (other : ℕ) → other < shape .states → getD targets other 0 ≤ 1
+
+-- ---- What is played
+
+-- A play has an operation for each move made, what was played stands, and the sides take turns: the jack console makes the moves
+-- at even places, from 0, and the link those at odd ones.
+pub record InTurn (jack link : Strategy) : Type 0 where
+  pub long : (made : ℕ) → length (play jack link made) ≡ made
+  pub stands : (made : ℕ) → take made (play jack link (made + 1)) ≡ play jack link made
+  pub even : (k : ℕ) → getD (play jack link (2 * k + 1)) (2 * k) 0 ≡ jack (play jack link (2 * k))
+  pub odd : (k : ℕ) → getD (play jack link (2 * k + 2)) (2 * k + 1) 0 ≡ link (play jack link (2 * k + 1))
+
+abbrev pub PlaysInTurn : Type 0
+PlaysInTurn = (jack link : Strategy) → InTurn jack link
 
 -- ---- What is turned away
 
