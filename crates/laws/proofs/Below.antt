@@ -1,12 +1,13 @@
 -- Laws of a test at every number below a bound, and at some number below it.
-use mathlib.Core.Path.{_≡_, refl, sym, ap, _∙_}
+use mathlib.Core.Path.{_≡_, refl, sym, ap, ap₂, _∙_}
 use mathlib.Core.Bool.{Bool, true, false, not, _||_, and-eq-true-iff, or-true}
 use mathlib.Core.Logic.{_⊎_, ⊎-elim}
 use Prim.Native.Nat.{ℕ, zero, suc, _<_}
 use native.Mathlib.Nat.{not-suc-le-zero, eq-or-lt-of-le, le-of-suc-le-suc}
 use native.Mathlib.Omega.{arith}
-use borrow.Author.Tests.{not-false}
+use borrow.Author.Tests.{not-true, not-false}
 use Rattle.laws.specs.Below.{allBelow, anyBelow}
+use Rattle.laws.proofs.Clash.{clash}
 
 last-or-below : (k n : ℕ) → k < suc n → (k ≡ n) ⊎ (k < n)
 last-or-below k n h = eq-or-lt-of-le (le-of-suc-le-suc h)
@@ -57,6 +58,22 @@ none-at n test e k h = by (test k) refl
     by true q = sym (any-of n test k h q) ∙ e
     by false q = refl
 
+-- What holds at some number is known at one.
+pub some-at : (n : ℕ) (test : ℕ → Bool) → anyBelow n test ≡ true → (k : ℕ) × (k < n) × (test k ≡ true)
+unfolding anyBelow
+some-at zero test e = clash e refl
+some-at (suc n) test e = by (test n) refl (some-at n test)
+  where
+    by : (b : Bool) → test n ≡ b → (anyBelow n test ≡ true → (k : ℕ) × (k < n) × (test k ≡ true)) → (k : ℕ) × (k < suc n) × (test k ≡ true)
+    by true q lower = (n, omega arith, q)
+    by false q lower = let (k, h, holds) = lower (sym (ap (λ (b : Bool). b || anyBelow n test) q) ∙ e) in (k, omega arith, holds)
+
+-- Two tests that agree below the bound hold at some number together.
+pub any-same : (n : ℕ) (one other : ℕ → Bool) → ((k : ℕ) → k < n → one k ≡ other k) → anyBelow n one ≡ anyBelow n other
+unfolding anyBelow
+any-same zero one other same = refl
+any-same (suc n) one other same = ap₂ (λ a b. a || b) (same n (omega arith)) (any-same n one other (λ k h. same k (omega arith)))
+
 -- What does not hold everywhere fails somewhere.
 pub some-fails : (n : ℕ) (test : ℕ → Bool) → allBelow n test ≡ false → anyBelow n (λ k. not (test k)) ≡ true
 some-fails n test e = by (anyBelow n (λ k. not (test k))) refl
@@ -64,3 +81,6 @@ some-fails n test e = by (anyBelow n (λ k. not (test k))) refl
     by : (b : Bool) → anyBelow n (λ k. not (test k)) ≡ b → b ≡ true
     by true q = refl
     by false q = sym e ∙ all-of n test (λ k h. not-false _ (none-at n (λ k. not (test k)) q k h))
+
+pub fails-at : (n : ℕ) (test : ℕ → Bool) → allBelow n test ≡ false → (k : ℕ) × (k < n) × (test k ≡ false)
+fails-at n test e = let (k, h, fails) = some-at n (λ k. not (test k)) (some-fails n test e) in (k, h, not-true (test k) fails)

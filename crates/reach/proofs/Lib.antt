@@ -7,3 +7,5 @@ pub mod OneList
 pub mod Words
 pub mod Ordered
 pub mod Arrays
+pub mod Changing
+pub mod ChangingWords

@@ -65,6 +65,9 @@ module _ (file : List ℕ) (shape : Shape) where
   turns-distinct zero = subst Distinct (sym turns-zero) (meet-distinct [] (shape .start) none-distinct)
   turns-distinct (suc place) = subst Distinct (sym (turns-suc place)) (turn-distinct (turns file shape place) place (turns-distinct place))
 
+  pub order-distinct : Distinct (orderOf file shape)
+  order-distinct = subst Distinct (sym order-is) (turns-distinct _)
+
   -- Past the list's end no turn changes it.
   pub turns-past : (place more : ℕ) → length (turns file shape place) ≤ place → turns file shape (more + place) ≡ turns file shape place
   turns-past place zero h = ap (turns file shape) (omega arith)

@@ -1,4 +1,5 @@
 pub mod Walk
 pub mod Order
+pub mod Changing
 pub mod Reached
 pub mod Statement

@@ -1,6 +1,8 @@
--- What is proved of the order of first meeting: it has the states that can be reached, and is the only list of its kind.
+-- What is proved of the order of first meeting: it has the states that can be reached, and is the only list of its kind. And which
+-- operations are changing: those that move a state that can be reached.
 use mathlib.Core.Path.{_≡_}
-use mathlib.Core.Logic.{_↔_, _⊎_}
+use mathlib.Core.Bool.{true, false}
+use mathlib.Core.Logic.{_↔_, _⊎_, _≢_}
 use mathlib.Core.List.{List}
 use Prim.Native.Nat.{ℕ, _+_, _<_, _≤_}
 use lib.ListN.{length, getD, take}
@@ -11,6 +13,7 @@ use Rattle.table.specs.Check.{checkOf}
 use Rattle.reach.specs.Walk.{nextOf, Reachable}
 use Rattle.reach.specs.declared.Reached.{Reached}
 use Rattle.reach.specs.Order.{orderOf}
+use Rattle.reach.specs.Changing.{reachable, changing}
 use Rattle.reach.specs.Reached.{reachedOf, reachedInto}
 
 -- A state stands at some place of a list.
@@ -62,3 +65,26 @@ pub record Found (file : List ℕ) (shape : Shape) (found : Reached) : Type 0 wh
 abbrev pub AcceptedFound : Type 0
 AcceptedFound = (file : List ℕ) (shape : Shape) → checkOf file ≡ Accepted shape
     → Found file shape (reachedOf file shape) × ((order number : List ℕ) → length order ≡ mostStates → length number ≡ mostStates → Found file shape (reachedInto file shape order number))
+
+-- ---- Which operations are changing
+
+-- The states that can be reached: the start state, the next states of each of them, and only states of the table. The test tells
+-- exactly them.
+pub record ReachedStates (file : List ℕ) (shape : Shape) : Type 0 where
+  pub start : Reachable file shape (shape .start)
+  pub next : (state operation : ℕ) → Reachable file shape state → operation < shape .operations → Reachable file shape (nextOf file shape state operation)
+  pub below : (state : ℕ) → Reachable file shape state → state < shape .states
+  pub tested : (state : ℕ) → (reachable file shape state ≡ true) ↔ Reachable file shape state
+
+-- An operation is changing exactly if it leads from some state that can be reached to another one, and reading exactly if it keeps
+-- every state that can be reached.
+pub record ChangingExactly (file : List ℕ) (shape : Shape) (operation : ℕ) : Type 0 where
+  pub changes : (changing file shape operation ≡ true) ↔ ((state : ℕ) × Reachable file shape state × (nextOf file shape state operation ≢ state))
+  pub reads : (changing file shape operation ≡ false) ↔ ((state : ℕ) → Reachable file shape state → nextOf file shape state operation ≡ state)
+
+-- So it is in every accepted table.
+abbrev pub AcceptedStates : Type 0
+AcceptedStates = (file : List ℕ) (shape : Shape) → checkOf file ≡ Accepted shape → ReachedStates file shape
+
+abbrev pub AcceptedChanging : Type 0
+AcceptedChanging = (file : List ℕ) (shape : Shape) → checkOf file ≡ Accepted shape → (operation : ℕ) → ChangingExactly file shape operation

@@ -1,11 +1,17 @@
 // The states of an object table that can be reached from its start state, in the order of first meeting (docs/FORMATS.md, "One
-// file for one object").
+// file for one object"), and which operations are changing: those that move one of these states ("The object table").
 //
 // The order is kept in two arrays: the states by place, and by state its place and one more, 0 for a state not met.
 use table::Shape;
 ghost use mathlib.Core.Path.{_≡_};
-ghost use lib.ListN.{length, take, replicate};
+ghost use mathlib.Core.Bool.{_&&_};
+ghost use Prim.Native.Nat.{_≤_};
+ghost use lib.Dec.{ltb};
+ghost use lib.ListN.{length, getD, take, replicate};
+ghost use Rattle.laws.specs.Below.{anyBelow};
+ghost use Rattle.table.specs.Entries.{moves};
 ghost use Rattle.reach.specs.Order.{meet, meetNext, orderOf};
+ghost use Rattle.reach.specs.Changing.{changing};
 ghost use Rattle.reach.specs.Reached.{reachedOf, reachedInto, Keeps, Kept};
 
 const MOST_STATES: u16 = 256;
@@ -116,4 +122,59 @@ pub fn reach(file: &[u8], shape: Shape) -> Reached
         number,
         count,
     }
+}
+
+// Whether an operation moves some state of the table, one that can be reached or not.
+fn moves_some(file: &[u8], shape: Shape, operation: u16) -> bool
+    ensures { λ r. ⌜ r ≡ anyBelow (shape .states) (λ state. moves (now (file .entry)) shape state operation) ⌝ }
+{
+    let states = shape.states;
+    let mut state: u16 = 0;
+    while state < states {
+        if table::moves_state(file, shape, state, operation) {
+            return true;
+        }
+        state += 1;
+    }
+    false
+}
+
+// Whether a number is a state of the table that an operation moves.
+fn moves_known(file: &[u8], shape: Shape, state: u16, operation: u16) -> bool
+    ensures { λ r. ⌜ r ≡ (ltb state (shape .states) && moves (now (file .entry)) shape state operation) ⌝ }
+{
+    if shape.states <= state {
+        return false;
+    }
+    table::moves_state(file, shape, state, operation)
+}
+
+// Whether an operation moves one of the first states of an order.
+fn moves_met(file: &[u8], shape: Shape, order: &[u16], count: u16, operation: u16) -> bool
+    requires { ⌜ count ≤ length (now order) ⌝ }
+    ensures { λ r. ⌜ r ≡ anyBelow count (λ place. ltb (getD (now (order .entry)) place 0) (shape .states) && moves (now (file .entry)) shape (getD (now (order .entry)) place 0) operation) ⌝ }
+{
+    let mut place: u16 = 0;
+    while place < count {
+        let met = order[place as usize];
+        if moves_known(file, shape, met, operation) {
+            return true;
+        }
+        place += 1;
+    }
+    false
+}
+
+// Whether an operation moves some state that can be reached; otherwise it is reading. One that moves no state of the table is
+// reading without a search.
+pub fn is_changing(file: &[u8], shape: Shape, operation: u16) -> bool
+    ensures { λ r. ⌜ r ≡ changing (now (file .entry)) shape operation ⌝ }
+{
+    if !moves_some(file, shape, operation) {
+        return false;
+    }
+    let mut order = [0; 256];
+    let mut number = [0; 256];
+    let count = meet_all(file, shape, &mut order, &mut number);
+    moves_met(file, shape, &order, count, operation)
 }

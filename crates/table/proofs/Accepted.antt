@@ -1,20 +1,21 @@
 -- What an accepted table promises to the calls that use it.
 use Prim.Native.Nat.{ℕ, _<_}
 use mathlib.Core.Path.{_≡_, sym, ap, _∙_}
-use mathlib.Core.Bool.{true}
+use mathlib.Core.Bool.{true, false}
+use mathlib.Core.Logic.{_↔_}
 use mathlib.Core.List.{List}
-use borrow.Author.Tests.{ltb-true, lt-ltb}
+use borrow.Author.Tests.{ltb-true, ltb-false, lt-ltb, le-ltb}
 use Rattle.laws.proofs.Choice.{taken}
 use Rattle.refusal.specs.declared.Refusal.the-variants.{NextState}
 use Rattle.table.specs.declared.Shape.{Shape}
 use Rattle.table.specs.declared.Checked.{Checked}
 use Rattle.table.specs.declared.Checked.the-variants.{Accepted, Refused}
-use Rattle.laws.proofs.Below.{all-at, all-of}
+use Rattle.laws.proofs.Below.{all-at, all-of, not-all, fails-at}
 use Rattle.table.specs.File.{Bytes}
 use Rattle.table.specs.Entries.{entryOf, entryInRange, operationInRange, entriesInRange}
 use Rattle.table.specs.Layout.{layoutOf}
 use Rattle.table.specs.Check.{withEntries, checkOf}
-use Rattle.table.specs.Statement.{AllInRange}
+use Rattle.table.specs.Statement.{AllInRange, OutOfRange}
 use Rattle.table.proofs.Fitting.{Fitting, layout-fitting, fitting-layout, refused}
 
 module _ (file : List ℕ) (shape : Shape) where
@@ -66,6 +67,18 @@ module _ (file : List ℕ) (shape : Shape) where
   unfolding entriesInRange operationInRange entryInRange
   all-tested all =
       all-of (shape .operations) (operationInRange file shape) (λ operation o. all-of (shape .states) (λ state. entryInRange file shape state operation) (λ state q. lt-ltb _ _ (all state operation q o)))
+
+  -- And that not every one is exactly if some entry leads to no state of the table.
+  pub entries-out : (entriesInRange file shape ≡ false) ↔ OutOfRange file shape
+  unfolding entriesInRange operationInRange entryInRange
+  entries-out = (
+    λ e.
+        let (operation, o, out) = fails-at (shape .operations) (operationInRange file shape) e in
+        let (state, q, beyond) = fails-at (shape .states) (λ state. entryInRange file shape state operation) out in
+        record { state = state; operation = operation; state-below = q; operation-below = o; beyond = ltb-false _ _ beyond },
+    λ out. not-all (shape .operations) (operationInRange file shape) (out .operation) (out .operation-below)
+        (not-all (shape .states) (λ state. entryInRange file shape state (out .operation)) (out .state) (out .state-below) (le-ltb _ _ (out .beyond))),
+  )
 
   -- A file of which none of causes 1 to 4 holds is accepted.
   pub fitting-accepted : Fitting file shape → AllInRange file shape → checkOf file ≡ Accepted shape

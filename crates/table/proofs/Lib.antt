@@ -1,5 +1,4 @@
 pub mod Fitting
 pub mod Accepted
-pub mod Changing
 pub mod Answers
 pub mod Cases

@@ -6,7 +6,7 @@ use lib.ListN.{replicate, drop, set}
 use Rattle.laws.specs.Bit.{bit}
 use Rattle.laws.specs.Case.{Case, case}
 use Rattle.table.specs.File.{shapeOf}
-use Rattle.table.specs.Entries.{moves, changing}
+use Rattle.table.specs.Entries.{moves}
 use Rattle.table.specs.Check.{checkOf, checkSaid}
 
 -- The flag object's entries.
@@ -31,10 +31,6 @@ zeroTable states operations =
 unfoldable pub number : List ℕ → ℕ
 number file = checkSaid (checkOf file) .number
 
--- 1 if an operation of a file is changing, 0 if it is reading.
-unfoldable pub changes : List ℕ → ℕ → ℕ
-changes file operation = bit (changing file (shapeOf file) operation)
-
 -- 1 if an operation moves a state of a file, 0 if it doesn't.
 unfoldable pub moved : List ℕ → (state operation : ℕ) → ℕ
 moved file state operation = bit (moves file (shapeOf file) state operation)
@@ -54,9 +50,6 @@ fileCases =
     -- Next state 1 passes with 2 states, next state 2 does not.
     ∷ case (number flag) 0
     ∷ case (number (set flag 8 2)) 4
-    -- The flag's operation 2 is changing, 0 is reading.
-    ∷ case (changes flag 2) 1
-    ∷ case (changes flag 0) 0
     -- The flag is moved by a set in 0 and a clear in 1; not by a set in 1, a clear in 0, or a read.
     ∷ case (moved flag 0 1) 1
     ∷ case (moved flag 1 1) 0

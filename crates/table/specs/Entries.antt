@@ -1,12 +1,11 @@
--- docs/FORMATS.md, "The object table": the entries, which next states are in range, where an operation moves the state, and
--- which operations are changing.
+-- docs/FORMATS.md, "The object table": the entries, which next states are in range, and where an operation moves the state.
 use mathlib.Core.Bool.{Bool, not}
 use mathlib.Core.List.{List}
 use Prim.Native.Nat.{ℕ, _+_, _*_}
 use lib.Dec.{ltb, eqb}
 use Rattle.table.specs.declared.Shape.{Shape}
 use Rattle.table.specs.declared.Entry.{Entry}
-use Rattle.laws.specs.Below.{allBelow, anyBelow}
+use Rattle.laws.specs.Below.{allBelow}
 use Rattle.table.specs.File.{byteAt}
 
 -- An entry's length: next state, response.
@@ -37,7 +36,3 @@ entriesInRange file shape = allBelow (shape .operations) (operationInRange file 
 -- The entry of a state and an operation has a next state other than that state: the operation moves the state there.
 unfoldable pub moves : List ℕ → Shape → ℕ → ℕ → Bool
 moves file shape state operation = not (eqb (entryOf file shape state operation .next) state)
-
--- The operation moves some state of the table; otherwise the operation is reading.
-unfoldable pub changing : List ℕ → Shape → ℕ → Bool
-changing file shape operation = anyBelow (shape .states) (λ state. moves file shape state operation)

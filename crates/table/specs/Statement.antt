@@ -14,6 +14,14 @@ use Rattle.table.specs.Check.{checkOf, checkSaid}
 abbrev pub AllInRange : List ℕ → Shape → Type 0
 AllInRange file shape = (state operation : ℕ) → state < shape .states → operation < shape .operations → entryOf file shape state operation .next < shape .states
 
+-- Some entry leads to no state of the table.
+pub record OutOfRange (file : List ℕ) (shape : Shape) : Type 0 where
+  pub state : ℕ
+  pub operation : ℕ
+  pub state-below : state < shape .states
+  pub operation-below : operation < shape .operations
+  pub beyond : shape .states ≤ entryOf file shape state operation .next
+
 pub record CheckAnswered (file : List ℕ) : Type 0 where
   -- 1 to 3 exactly if length, mark and trailer alone are answered so.
   pub layout : (number : ℕ) → 1 ≤ number → number ≤ 3 → (checkSaid (checkOf file) ≡ refusedBy number) ↔ (checkSaid (layoutOf file) ≡ refusedBy number)

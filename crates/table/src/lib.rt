@@ -6,7 +6,7 @@ ghost use mathlib.Core.Path.{_≡_};
 ghost use Prim.Native.Nat.{_-_, _*_, _<_, _^_};
 ghost use Rattle.table.specs.File.{byteAt, number16, trailerBytes, endsInMark, shapeOf};
 ghost use Rattle.table.specs.Layout.{fileLength, fileFits, dimensionsFit, lengthFits, layoutOf};
-ghost use Rattle.table.specs.Entries.{entryOf, entryInRange, operationInRange, entriesInRange, moves, changing};
+ghost use Rattle.table.specs.Entries.{entryOf, entryInRange, operationInRange, entriesInRange, moves};
 ghost use Rattle.table.specs.Check.{checkOf};
 
 const TRAILER_BYTES: usize = 16;
@@ -211,7 +211,7 @@ pub fn entry_in_range(file: &[u8], shape: Shape, state: u16, operation: u16) -> 
 }
 
 // Whether cause 4 holds on none of one operation's entries.
-pub fn operation_in_range(file: &[u8], shape: Shape, operation: u16) -> bool
+fn operation_in_range(file: &[u8], shape: Shape, operation: u16) -> bool
     ensures { λ r. ⌜ r ≡ operationInRange (now (file .entry)) shape operation ⌝ }
 {
     let states = shape.states;
@@ -263,19 +263,4 @@ pub fn moves_state(file: &[u8], shape: Shape, state: u16, operation: u16) -> boo
 {
     let entry = read_entry(file, shape, state, operation);
     entry.next != state
-}
-
-// Whether an operation moves some state of the table; otherwise it is reading.
-pub fn is_changing(file: &[u8], shape: Shape, operation: u16) -> bool
-    ensures { λ r. ⌜ r ≡ changing (now (file .entry)) shape operation ⌝ }
-{
-    let states = shape.states;
-    let mut state: u16 = 0;
-    while state < states {
-        if moves_state(file, shape, state, operation) {
-            return true;
-        }
-        state += 1;
-    }
-    false
 }

@@ -6,9 +6,9 @@ use native.Mathlib.Omega.{arith}
 use borrow.Author.Count.{below-more}
 use borrow.Author.Needs.{needs}
 use Rattle.laws.proofs.Below.{any-of, not-any}
-use Rattle.table.specs.Entries.{moves, changing}
-use Rattle.table.proofs.is_changing.Statement.{statement}
-use Rattle.table.proofs.is_changing.Tie as tie
+use Rattle.table.specs.Entries.{moves}
+use Rattle.reach.proofs.moves_some.Statement.{statement}
+use Rattle.reach.proofs.moves_some.Tie as tie
 
 abbrev Inv-loop : tie.InvT-loop
 Inv-loop file shape operation states state₀ state = (state ≤ states) × ((k : ℕ) → k < state → moves file shape k operation ≡ false)
@@ -23,7 +23,6 @@ moves-state-requires : tie.Need-moves-state-requires Inv-loop μ-loop
 moves-state-requires c κs = search needs
 
 returns : tie.Need-returns Inv-loop μ-loop
-unfolding changing
 returns c =
     let b = c .before in
     let l = b .before .before .loop in
@@ -42,11 +41,10 @@ loop-again c =
     (omega arith, below-more _ _ (l .inv .1) (sym (b .moves-state .ensures) ∙ c .if1 .left))
 
 returns-2 : tie.Need-returns-2 Inv-loop μ-loop
-unfolding changing
 returns-2 c = sym (not-any _ _ (λ k h. c .before .loop .inv .1 k (omega arith)))
 
-pub is-changing-spec : {M : Type 1} → statement M
-is-changing-spec =
+pub moves-some-spec : {M : Type 1} → statement M
+moves-some-spec =
     tie.close
     (tie.spec
     Inv-loop
