@@ -21,7 +21,7 @@ fn print_changing(file: &[u8], shape: Shape) {
     let operations = shape.operations;
     let mut operation: u16 = 0;
     while operation < operations {
-        print_flag(table::is_changing(file, shape, operation));
+        print_flag(reach::is_changing(file, shape, operation));
         operation += 1;
     }
 }

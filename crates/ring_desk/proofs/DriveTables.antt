@@ -1,13 +1,17 @@
 -- The object table of a drive is accepted, and counts rings.
-use mathlib.Core.Path.{_≡_, refl, sym, ap, _∙_}
+use mathlib.Core.Path.{_≡_, refl, sym, ap, subst, _∙_}
 use mathlib.Core.Bool.{true, false}
 use Prim.Native.Nat.{ℕ, zero, suc, _+_, _-_, _<_, _≤_}
 use native.Mathlib.Decide.{decLt}
 use native.Mathlib.Omega.{arith}
-use borrow.Author.Tests.{lt-ltb, le-ltb, eq-eqb, ne-eqb}
-use Rattle.laws.proofs.Below.{any-of, not-any}
+use borrow.Author.Tests.{lt-ltb, le-ltb}
 use Rattle.table.specs.declared.Entry.{Entry}
-use Rattle.table.specs.Entries.{entryOf, moves, changing}
+use Rattle.table.specs.Entries.{entryOf}
+use Rattle.reach.specs.Walk.{Reachable}
+use Rattle.reach.specs.Changing.{changing}
+use Rattle.reach.specs.Statement.{ChangingExactly}
+use Rattle.reach.proofs.Search.{start-reached, next-reached}
+use Rattle.reach.proofs.Changing.{accepted-states, accepted-changing}
 use Rattle.table_writer.specs.Statement.{WithinLimits, ReadsBack}
 use Rattle.table_writer.proofs.ReadsBack.{reads-back}
 use Rattle.ring_desk.specs.Table.{deskOperations, nextBuilt, deskEntry, deskShape, deskFile}
@@ -80,16 +84,25 @@ module _ (rings : ℕ) (some : 1 ≤ rings) (few : rings ≤ 255) where
   next-is : (built operation : ℕ) → built ≤ rings → operation < deskOperations → entryOf (deskFile rings) (deskShape rings) built operation .next ≡ nextBuilt rings built operation
   next-is built operation h l = ap (λ (e : Entry). e .next) (entry-is built operation h l)
 
+  -- Every number of rings is reached by so many builds.
+  reached : (built : ℕ) → built ≤ rings → Reachable (deskFile rings) (deskShape rings) built
+  reached zero h = start-reached (deskFile rings) (deskShape rings)
+  reached (suc built) h =
+      let one-more : nextBuilt rings built 1 ≡ suc built = rw (lt-ltb built rings h) (omega arith) in
+      subst (Reachable (deskFile rings) (deskShape rings)) (next-is built 1 (omega arith) (omega arith) ∙ one-more)
+      (next-reached (deskFile rings) (deskShape rings) built 1 (reached built (omega arith)) (omega arith))
+
+  changes : (operation : ℕ) → ChangingExactly (deskFile rings) (deskShape rings) operation
+  unfolding deskFile
+  changes = accepted-changing (deskFile rings) (deskShape rings) (back .accepted)
+
   reads : changing (deskFile rings) (deskShape rings) 0 ≡ false
-  unfolding changing moves
-  reads = not-any (rings + 1) (λ built. moves (deskFile rings) (deskShape rings) built 0) (λ built h. simp (eq-eqb _ _ (next-is built 0 (omega arith) (omega arith))))
+  unfolding deskFile
+  reads = changes 0 .reads .1 (λ built r. next-is built 0 (let below = accepted-states (deskFile rings) (deskShape rings) (back .accepted) .below built r in omega (arith, below)) (omega arith))
 
   -- An operation that moves a state is changing.
   moved : (built operation : ℕ) → built ≤ rings → operation < deskOperations → (nextBuilt rings built operation ≡ built → ⊥) → changing (deskFile rings) (deskShape rings) operation ≡ true
-  unfolding changing moves
-  moved built operation h l other =
-      any-of (rings + 1) (λ built. moves (deskFile rings) (deskShape rings) built operation) built (omega arith)
-      (simp (ne-eqb _ _ (λ e. other (sym (next-is built operation h l) ∙ e))))
+  moved built operation h l other = changes operation .changes .1 (built, reached built h, λ e. other (sym (next-is built operation h l) ∙ e))
 
   drive-table : DriveTable rings
   unfolding deskFile
@@ -101,6 +114,7 @@ module _ (rings : ℕ) (some : 1 ≤ rings) (few : rings ≤ 255) where
         counts = λ built operation h l. rw (next-is built operation h l) (next-counts rings built operation h l);
         counts-once = λ built operation one other a b. counts-next rings built operation one a ∙ sym (counts-next rings built operation other b);
         responds = λ built operation h l. ap (λ (e : Entry). e .response) (entry-is built operation h l);
+        reached = reached;
         reads = reads;
         builds = moved 0 1 (omega arith) (omega arith) (rw (lt-ltb 0 rings some) (λ e. omega arith));
         takes-out = moved 1 2 some (omega arith) (λ e. omega arith);

@@ -13,7 +13,9 @@ use Rattle.table.specs.declared.Shape.{Shape}
 use Rattle.table.specs.declared.Checked.the-variants.{Accepted}
 use Rattle.table.specs.File.{Bytes}
 use Rattle.table.specs.Check.{checkOf}
-use Rattle.table.specs.Entries.{entryOf, changing}
+use Rattle.table.specs.Entries.{entryOf}
+use Rattle.reach.specs.Walk.{Reachable}
+use Rattle.reach.specs.Changing.{changing}
 use Rattle.ring_desk.specs.Rings.{ringCount, lengthOf, kindOf, startOf, endOf}
 use Rattle.ring_desk.specs.Owner.{ownerOf, ownerSaid}
 use Rattle.ring_desk.specs.Table.{deskFile, tableOf}
@@ -98,7 +100,7 @@ abbrev pub driveShape : ℕ → Shape
 driveShape rings = record { offset = 0; states = rings + 1; operations = 3; start = 0 }
 
 -- The file of a drive of so many rings: its length; check accepts it; its entries count rings, in one way, and respond with the number
--- built before; 0 is reading, 1 and 2 are changing.
+-- built before; every number of rings can be reached; 0 is reading, 1 and 2 are changing.
 pub record DriveTable (rings : ℕ) : Type 0 where
   pub long : length (deskFile rings) ≡ 6 * rings + 22
   pub bytes : Bytes (deskFile rings)
@@ -107,6 +109,7 @@ pub record DriveTable (rings : ℕ) : Type 0 where
       → Counts rings built operation (entryOf (deskFile rings) (driveShape rings) built operation .next)
   pub counts-once : (built operation one other : ℕ) → Counts rings built operation one → Counts rings built operation other → one ≡ other
   pub responds : (built operation : ℕ) → built ≤ rings → operation < 3 → entryOf (deskFile rings) (driveShape rings) built operation .response ≡ built
+  pub reached : (built : ℕ) → built ≤ rings → Reachable (deskFile rings) (driveShape rings) built
   pub reads : changing (deskFile rings) (driveShape rings) 0 ≡ false
   pub builds : changing (deskFile rings) (driveShape rings) 1 ≡ true
   pub takes-out : changing (deskFile rings) (driveShape rings) 2 ≡ true

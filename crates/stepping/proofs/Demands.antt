@@ -30,7 +30,7 @@ use Rattle.machine.proofs.Points.Pending.{pending-is}
 use Rattle.machine.proofs.Whole.WaitFree.{bound-ceiling, pending-steps}
 use Rattle.records.specs.Record.{RecordFits}
 use Rattle.transition.specs.Encoding.{encodeTask, encodeAccess}
-use Rattle.transition.proofs.Lawful.{object-lawful}
+use Rattle.transition.proofs.Lawful.{good-reached, object-lawful}
 use Rattle.stepping.specs.Call.{taskAt}
 use Rattle.stepping.specs.Access.{accessOf}
 use Rattle.stepping.specs.Runs.{Store, CallOutcome, serveOf, runOf, historyOf}
@@ -73,7 +73,7 @@ module _ {file : List ℕ} {n q : ℕ} {s : Store} (o : Opening file n q s) wher
   machineRun xs = run (objectIn o) n xs (start q)
 
   pub opens : Opens (objectIn o) q
-  opens = record { lawful = object-lawful (o .table); good = o .good }
+  opens = record { lawful = object-lawful (o .table); good = good-reached (o .table) q .1 (o .reachable) }
 
   pub in-range : (xs : List Call) → InRange (objectIn o) n (run (objectIn o) n xs (start q))
   in-range = reached (objectIn o) n q (o .some) opens

@@ -1,5 +1,5 @@
 -- Which records are refused with 11, and which touched cells with 12: exactly those out of form.
-use mathlib.Core.Path.{_≡_, refl, sym, ap, subst}
+use mathlib.Core.Path.{_≡_, refl, sym, ap, subst, _∙_}
 use mathlib.Core.Bool.{Bool, true, false, cond, not-eq-not}
 use mathlib.Core.Logic.{_↔_, _≢_}
 use mathlib.Core.List.{List}
@@ -16,6 +16,8 @@ use Rattle.cells.specs.Statement.{holderIn}
 use Rattle.cells.proofs.Theorem.{point-by-point}
 use Rattle.table.specs.declared.Shape.{Shape}
 use Rattle.table.specs.File.{shapeOf}
+use Rattle.table.specs.Entries.{entriesInRange}
+use Rattle.table.proofs.Accepted.{all-tested}
 use Rattle.machine.specs.Calls.{Refused}
 use Rattle.records.specs.declared.record.Task.{Task}
 use Rattle.records.specs.declared.phase.Phase.{Phase}
@@ -34,7 +36,7 @@ use Rattle.stepping.specs.declared.answer.StepAnswer.the-variants as ste
 use Rattle.stepping.specs.Step.{touched, cellInForm, answerOf, TaskOutcome, ledTo, served}
 use Rattle.stepping.specs.Call.{refuseStep, touch, stepFrom, stepTask, stepSaid, begunTask, refuseBegin, beginFrom, beginTask, beginSaid}
 use Rattle.stepping.specs.Access.{accessOf}
-use Rattle.stepping.specs.Statement.{FitsTable, StepTested, RecordJudged, BeginRecordJudged, TouchedFits, CellJudged, StepRefused, BeginRefused, HolderAbove, SavedHolderAbove, BeginHolderAbove}
+use Rattle.stepping.specs.Statement.{FitsTable, StepTested, BeginAsked, RecordJudged, BeginRecordJudged, TouchedFits, CellJudged, StepRefused, BeginRefused, HolderAbove, SavedHolderAbove, BeginHolderAbove}
 use Rattle.stepping.proofs.Admission.{ceiling, admits}
 use Rattle.stepping.proofs.Forms.{cell-fits}
 use Rattle.stepping.proofs.Refused.{refused-begin, refused-step}
@@ -127,14 +129,20 @@ record-judged = record-said
 pub cell-judged : (file cells : List ℕ) (n i : ℕ) (t : Task) → CellJudged file cells n i t
 cell-judged file cells n i t s (f, read) pending = cell-said file cells n i t s f read pending
 
--- ---- A begin whose tests before 11 are passed
+-- ---- A begin whose tests before 4 are passed, and before 11
+
+-- All entries are tested, and then the record.
+pub asked-tests : (file : List ℕ) (n i o : ℕ) (t : Task) → BeginAsked file n i o
+    → beginTask file n i o t ≡ cond (entriesInRange file (shapeOf file)) (beginFrom file (shapeOf file) o t (readRecord (shapeOf file) n (ceiling n) t)) (refuseBegin t cause.NextState)
+unfolding beginTask
+asked-tests file n i o t a = rw (admits file n (shapeOf file) (a .accepted) (a .some) (a .few), lt-ltb i n (a .below), lt-ltb o (shapeOf file .operations) (a .known))
 
 pub begin-record-judged : (file : List ℕ) (n i o : ℕ) (t : Task) → BeginRecordJudged file n i o t
 unfolding beginTask
 begin-record-judged file n i o t s = (λ e (f, read). by (eqb (t .phase) 0) (rw (tested, read) at e), λ bad. rw (tested, record-refused (shapeOf file) n (ceiling n) t .0 bad))
   where
     tested : beginTask file n i o t ≡ beginFrom file (shapeOf file) o t (readRecord (shapeOf file) n (ceiling n) t)
-    tested = rw (admits file n (shapeOf file) (s .accepted) (s .some) (s .few), lt-ltb i n (s .below), lt-ltb o (shapeOf file .operations) (s .known), s .ranged)
+    tested = asked-tests file n i o t (s .asked) ∙ rw (all-tested file (shapeOf file) (s .ranged))
 
     by : (b : Bool) → beginSaid (cond b (record { task = begunTask file (shapeOf file) o t; answer = answer.Begun }) (refuseBegin t cause.Pending) .answer) ≡ Refused 11 → ⊥
     by true e = never cc

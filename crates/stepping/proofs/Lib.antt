@@ -19,5 +19,7 @@ pub mod Continued
 pub mod Outcomes
 pub mod Between
 pub mod Rows
+pub mod Entries
 pub mod Theorem
+pub mod Rest
 pub mod Cases

@@ -12,8 +12,9 @@ use Rattle.cells.specs.Field.{unpack}
 use Rattle.cells.specs.Image.{image}
 use Rattle.cells.specs.Layout.{announcementOf}
 use Rattle.cells.specs.declared.announcement.Announcement.the-variants as content
-use Rattle.table.specs.Entries.{moves, changing}
-use Rattle.table.proofs.Changing.{reading-unmoved}
+use Rattle.table.specs.Entries.{moves}
+use Rattle.reach.specs.Changing.{changing}
+use Rattle.reach.proofs.Changing.{accepted-changing, keeps-unmoved}
 use Rattle.machine.specs.Outcome.{Outcome}
 use Rattle.machine.specs.Calls.{Call}
 use Rattle.machine.specs.Book.{Operation}
@@ -26,6 +27,7 @@ use Rattle.machine.proofs.Book.Replay.{replayed-at}
 use Rattle.machine.proofs.Invariant.Ranges.{state-good}
 use Rattle.machine.proofs.Points.Carried as machine
 use Rattle.machine.proofs.Whole.Demands.{demand}
+use Rattle.transition.proofs.Lawful.{good-reached}
 use Rattle.transition.proofs.EncodedCells.{head-same-value, content-same-value, head-read, announcement-read}
 use Rattle.stepping.specs.Runs.{Store}
 use Rattle.stepping.specs.Encoding.{encodeCells}
@@ -90,4 +92,5 @@ module _ {file : List ℕ} {n q : ℕ} {s : Store} (o : Opening file n q s) wher
       let k = sound (objectIn o) n q (opens o) xs in
       let m = machineRun o xs .memory in
       let good = state-good (objectIn o) n (m .head .value) (k .formed .memory .head .value) in
-      reading-unmoved file (o .shape) x reads _ (rw (k .related .state) (ltb-true _ _ good))
+      let reached = good-reached (o .table) (bookOf (objectIn o) n q xs .state) .0 (rw (k .related .state) good) in
+      keeps-unmoved file (o .shape) (bookOf (objectIn o) n q xs .state) x (accepted-changing file (o .shape) (o .table .accepted) x .reads .0 reads _ reached)

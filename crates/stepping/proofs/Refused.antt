@@ -11,7 +11,7 @@ use Rattle.refusal.specs.declared.Refusal.{Refusal}
 use Rattle.refusal.specs.declared.Refusal.the-variants as cause
 use Rattle.table.specs.declared.Shape.{Shape}
 use Rattle.table.specs.Check.{checkOf}
-use Rattle.table.specs.Entries.{operationInRange}
+use Rattle.table.specs.Entries.{entriesInRange}
 use Rattle.records.specs.declared.record.Task.{Task}
 use Rattle.records.specs.declared.phase.Phase.{Phase}
 use Rattle.records.specs.declared.phase.PhaseRead.{PhaseRead}
@@ -72,7 +72,7 @@ module _ (t : Task) where
     begin-kept (admitted.Admits c shape) =
         choice BeginKept (ltb i n) _ _
         (choice BeginKept (ltb o (shape .operations)) _ _
-        (choice BeginKept (operationInRange file shape o) _ _ (begin-from shape (readRecord shape n c t)) (begin-refused cause.NextState))
+        (choice BeginKept (entriesInRange file shape) _ _ (begin-from shape (readRecord shape n c t)) (begin-refused cause.NextState))
         (begin-refused cause.Operation))
         (begin-refused cause.Task)
 

@@ -19,7 +19,7 @@ use Rattle.table.specs.declared.Checked.{Checked}
 use Rattle.table.specs.declared.Checked.the-variants as table
 use Rattle.table.specs.Layout.{layoutOf}
 use Rattle.table.specs.Check.{checkOf, checkSaid}
-use Rattle.table.specs.Entries.{operationInRange}
+use Rattle.table.specs.Entries.{entriesInRange}
 use Rattle.table.proofs.Answers.{layout-numbers, check-answered}
 use Rattle.machine.specs.Calls.{Answer, Refused}
 use Rattle.records.specs.declared.record.Task.{Task}
@@ -68,45 +68,47 @@ start-row-judged file cells row =
 layout-before : (file : List ℕ) (c : Refusal) → layoutOf file ≡ table.Refused c → numberOf c ≢ 5
 layout-before file c e five = omega (arith, five, layout-numbers file c e)
 
-same-number : (k : ℕ) → Refused k ≡ Refused 5 → k ≡ 5
-same-number k e = cc
+pub same-number : (k number : ℕ) → Refused k ≡ Refused number → k ≡ number
+same-number k number e = cc
 
-abbrev Other : Answer → Type 0
-Other a = a ≢ Refused 5
+-- An answer says another number, or none.
+abbrev pub Other : ℕ → Answer → Type 0
+Other number a = a ≢ Refused number
 
-other : (k : ℕ) → k ≢ 5 → Other (Refused k)
-other k differs e = differs (same-number k e)
+pub other : {number : ℕ} (k : ℕ) → k ≢ number → Other number (Refused k)
+other {number} k differs e = differs (same-number k number e)
 
 -- A record that isn't read is refused with 11.
-unread : (shape : Shape) (n : ℕ) (t : Task) (c : Refusal) → readRecord shape n (ceiling n) t ≡ record-phase.Refused c → Other (Refused (numberOf c))
-unread shape n t c e = rw (cause-read shape n (ceiling n) t c e) (other 11 (λ z. omega arith))
+unread : {number : ℕ} → 11 ≢ number → (shape : Shape) (n : ℕ) (t : Task) (c : Refusal) → readRecord shape n (ceiling n) t ≡ record-phase.Refused c → Other number (Refused (numberOf c))
+unread differs shape n t c e = rw (cause-read shape n (ceiling n) t c e) (other 11 differs)
 
 module _ (file : List ℕ) (n i o : ℕ) (t : Task) where
-  abbrev Begins : Begin → Type 0
-  Begins out = Other (beginSaid (out .answer))
+  -- After the tests of numbers and entries begin says 11, 9 or no number.
+  pub begin-read : {number : ℕ} → 11 ≢ number → 9 ≢ number → (shape : Shape) (read : PhaseRead) → readRecord shape n (ceiling n) t ≡ read → Other number (beginSaid (beginFrom file shape o t read .answer))
+  begin-read unformed pending shape (record-phase.Refused c) e = unread unformed shape n t c e
+  begin-read {number} unformed pending shape (record-phase.Known f) e = choice (λ (out : Begin). Other number (beginSaid (out .answer))) (eqb (t .phase) 0) _ _ (λ z. never cc) (other 9 pending)
 
-  begin-read : (shape : Shape) (read : PhaseRead) → readRecord shape n (ceiling n) t ≡ read → Begins (beginFrom file shape o t read)
-  begin-read shape (record-phase.Refused c) e = unread shape n t c e
-  begin-read shape (record-phase.Known f) e = choice Begins (eqb (t .phase) 0) _ _ (λ z. never cc) (other 9 (λ z. omega arith))
+  abbrev Begins : Begin → Type 0
+  Begins out = Other 5 (beginSaid (out .answer))
 
   begin-admitted : (shape : Shape) → Begins (beginIn file n i o t (admitted.Admits (ceiling n) shape))
   begin-admitted shape =
       choice Begins (ltb i n) _ _
       (choice Begins (ltb o (shape .operations)) _ _
-      (choice Begins (operationInRange file shape o) _ _ (begin-read shape (readRecord shape n (ceiling n) t) refl) (other 4 (λ z. omega arith)))
+      (choice Begins (entriesInRange file shape) _ _ (begin-read (λ z. omega arith) (λ z. omega arith) shape (readRecord shape n (ceiling n) t) refl) (other 4 (λ z. omega arith)))
       (other 8 (λ z. omega arith)))
       (other 7 (λ z. omega arith))
 
   pub begin-row-judged : BeginRowJudged file n i o t
   unfolding beginTask admitOf
-  begin-row-judged = row-judged Refused same-number (λ a. beginSaid (beginIn file n i o t a .answer)) (λ c. refl) (layoutOf file) (layout-before file) n begin-admitted
+  begin-row-judged = row-judged Refused (λ k. same-number k 5) (λ a. beginSaid (beginIn file n i o t a .answer)) (λ c. refl) (layoutOf file) (layout-before file) n begin-admitted
 
 module _ (file cells : List ℕ) (n i : ℕ) (t : Task) where
   abbrev Steps : TaskOutcome → Type 0
-  Steps out = Other (stepSaid (out .answer))
+  Steps out = Other 5 (stepSaid (out .answer))
 
   step-read : (shape : Shape) (read : PhaseRead) → readRecord shape n (ceiling n) t ≡ read → Steps (stepFrom file shape cells n i t read)
-  step-read shape (record-phase.Refused c) e = unread shape n t c e
+  step-read shape (record-phase.Refused c) e = unread (λ z. omega arith) shape n t c e
   step-read shape (record-phase.Known f) e = λ said. known-says file shape cells n i t f (λ k. k ≢ 5) (λ z. omega arith) (λ z. omega arith) (λ z. omega arith) 5 said refl
 
   step-admitted : (shape : Shape) → Steps (stepIn file cells n i t (admitted.Admits (ceiling n) shape))
@@ -117,4 +119,4 @@ module _ (file cells : List ℕ) (n i : ℕ) (t : Task) where
 
   pub step-row-judged : StepRowJudged file cells n i t
   unfolding stepTask admitOf
-  step-row-judged = row-judged Refused same-number (λ a. stepSaid (stepIn file cells n i t a .answer)) (λ c. refl) (layoutOf file) (layout-before file) n step-admitted
+  step-row-judged = row-judged Refused (λ k. same-number k 5) (λ a. stepSaid (stepIn file cells n i t a .answer)) (λ c. refl) (layoutOf file) (layout-before file) n step-admitted

@@ -12,8 +12,9 @@ use Rattle.refusal.specs.declared.Refusal.the-variants as cause
 use Rattle.refusal.specs.Number.{numberOf}
 use Rattle.cells.specs.Layout.{marksWidth}
 use Rattle.table.specs.declared.Shape.{Shape}
-use Rattle.table.specs.Entries.{operationInRange, changing}
-use Rattle.table.proofs.Accepted.{accepted-parts, accepted-operation}
+use Rattle.table.specs.Entries.{entriesInRange}
+use Rattle.table.proofs.Accepted.{accepted-parts}
+use Rattle.reach.specs.Changing.{changing}
 use Rattle.machine.specs.Object.{Object}
 use Rattle.machine.specs.Memory.{Memory}
 use Rattle.machine.specs.Machine as machine
@@ -145,7 +146,7 @@ module _ (file : List ℕ) (shape : Shape) (table : ObjectTable file shape) (n :
 
     -- The same for a call of begin with operation o.
     module _ (o : ℕ) where
-      begin-task : (t : Task) → beginTask file n i o t ≡ cond (ltb i n) (cond (ltb o (shape .operations)) (cond (operationInRange file shape o) (beginFrom file shape o t (readRecord shape n (ceiling n) t)) (refuseBegin t cause.NextState)) (refuseBegin t cause.Operation)) (refuseBegin t cause.Task)
+      begin-task : (t : Task) → beginTask file n i o t ≡ cond (ltb i n) (cond (ltb o (shape .operations)) (cond (entriesInRange file shape) (beginFrom file shape o t (readRecord shape n (ceiling n) t)) (refuseBegin t cause.NextState)) (refuseBegin t cause.Operation)) (refuseBegin t cause.Task)
       unfolding beginTask
       begin-task t = rw admitted
 
@@ -164,7 +165,7 @@ module _ (file : List ℕ) (shape : Shape) (table : ObjectTable file shape) (n :
 
       module _ (below : i < n) (known : o < shape .operations) where
         begin-known : (t : Task) → beginTask file n i o t ≡ beginFrom file shape o t (readRecord shape n (ceiling n) t)
-        begin-known t = begin-task t ∙ rw (lt-ltb i n below, lt-ltb o (shape .operations) known, accepted-operation file shape (table .accepted) o known)
+        begin-known t = begin-task t ∙ rw (lt-ltb i n below, lt-ltb o (shape .operations) known, accepted-parts file shape (table .accepted) .1)
 
         begin-pending : off (kind (c .task i .phase)) ≡ false → serveOf file (Begin i o) (encodeConfig n c) ≡ encodeServed n (unserved c 9)
         begin-pending e =

@@ -3,7 +3,7 @@ use mathlib.Core.Path.{_≡_, refl, ap, _∙_}
 use mathlib.Core.Bool.{Bool, true, false}
 use mathlib.Core.List.{List, [], _∷_, _++_}
 use Prim.Native.Nat.{ℕ, zero, suc, _+_, _≤_}
-use borrow.Author.Tests.{eqb-true, eq-eqb, lt-ltb}
+use borrow.Author.Tests.{eqb-true, eq-eqb}
 use lib.Dec.{eqb}
 use lib.ListN.{length}
 use Rattle.laws.proofs.Clash.{never}
@@ -19,6 +19,7 @@ use Rattle.table.specs.declared.Checked.the-variants as table
 use Rattle.table.specs.File.{shapeOf}
 use Rattle.table.specs.Check.{checkOf}
 use Rattle.table.proofs.Accepted.{accepted-fitting}
+use Rattle.reach.proofs.Search.{start-reached}
 use Rattle.machine.specs.Memory.{image}
 use Rattle.machine.specs.Run as run
 use Rattle.records.specs.declared.record.Task.{Task}
@@ -92,7 +93,7 @@ module _ (file cells : List ℕ) (row : List Task) where
         table = record { bytes = bytes; accepted = f .accepted };
         some = f .some;
         few = f .few;
-        good = rw (← fits .shape-is) (lt-ltb _ _ (fits .start-below));
+        reachable = rw (← fits .shape-is) (start-reached file (f .shape));
         cells = rw e refl;
         row = rw e refl;
       }

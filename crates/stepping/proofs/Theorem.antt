@@ -22,13 +22,14 @@ use Rattle.stepping.specs.Call.{StartOutcome, startOf, admitStartOf, beg
 use Rattle.stepping.specs.Runs.{Store}
 use Rattle.stepping.specs.Opening.{Opening, objectIn}
 use Rattle.stepping.specs.Lent.{Places}
-use Rattle.stepping.specs.Statement.{MakesAccess, FollowsResult, Local, OneCell, BeginByRecord, StepByRecord, StartUnchanged, BeginUnchanged, StepUnchanged, BeginRecordUnchanged, StepRecordUnchanged, StartTableRefused, BeginTableRefused, StepTableRefused, StartRowJudged, BeginRowJudged, StepRowJudged, RecordJudged, BeginRecordJudged, CellJudged, HolderAbove, SavedHolderAbove, BeginHolderAbove, HeadsInForm, KeepsForm, LeavesInForm, Startable, StartOpens, Demands, SharperDemands, Independent, Answered, Carried, InFormThroughout, Refusals, Endings, Emptied, Between, OpensNext}
+use Rattle.stepping.specs.Statement.{MakesAccess, FollowsResult, Local, OneCell, BeginByRecord, StepByRecord, StartUnchanged, BeginUnchanged, StepUnchanged, BeginRecordUnchanged, StepRecordUnchanged, StartTableRefused, BeginTableRefused, StepTableRefused, StartRowJudged, BeginRowJudged, StepRowJudged, BeginEntriesJudged, RecordJudged, BeginRecordJudged, CellJudged, HolderAbove, SavedHolderAbove, BeginHolderAbove, HeadsInForm, KeepsForm, LeavesInForm, Startable, StartOpens, Demands, SharperDemands, Independent, Answered, Carried, InFormThroughout, Refusals, Endings, Emptied, Between, OpensNext}
 use Rattle.stepping.proofs.Between.{between, opens-next}
 use Rattle.stepping.proofs.Demands.{opens, points-in-form, history-opened, answer-opened, access-opened, refused-opened, emptied}
 use Rattle.stepping.proofs.Outcomes.{answered, met, unmoved}
 use Rattle.stepping.proofs.Forms.{heads-in-form, keeps-form, leaves-in-form}
 use Rattle.stepping.proofs.Judged.{record-judged, begin-record-judged, cell-judged, holder-above, saved-holder-above, begin-holder-above}
 use Rattle.stepping.proofs.Rows.{start-row-judged, begin-row-judged, step-row-judged}
+use Rattle.stepping.proofs.Entries.{begin-entries-judged}
 use Rattle.stepping.proofs.Local.{step-local, step-elsewhere}
 use Rattle.stepping.proofs.AccessRule.{makes-access, follows-result}
 use Rattle.stepping.proofs.ByRecord.{begin-by-record, step-by-record}
@@ -101,6 +102,10 @@ begin-row-known = begin-row-judged
 
 pub step-row-known : (file cells : List ℕ) (n i : ℕ) (t : Task) → StepRowJudged file cells n i t
 step-row-known = step-row-judged
+
+-- 4 comes from begin exactly for a table with some entry out of range, after the tests of file, row and numbers.
+pub begin-entries-known : (file : List ℕ) (n i o : ℕ) (t : Task) → BeginEntriesJudged file n i o t
+begin-entries-known = begin-entries-judged
 
 -- ---- Cells and records in form and out of form
 

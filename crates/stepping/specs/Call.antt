@@ -17,7 +17,8 @@ use Rattle.table.specs.declared.Checked.{Checked}
 use Rattle.table.specs.declared.Checked.the-variants as table
 use Rattle.table.specs.Layout.{layoutOf}
 use Rattle.table.specs.Check.{checkOf}
-use Rattle.table.specs.Entries.{operationInRange, changing}
+use Rattle.table.specs.Entries.{entriesInRange}
+use Rattle.reach.specs.Changing.{changing}
 use Rattle.records.specs.declared.record.Task.{Task}
 use Rattle.records.specs.declared.phase.Phase.{Phase}
 use Rattle.records.specs.declared.phase.Phase.the-variants as phase
@@ -106,7 +107,7 @@ filled cells row found = record {
 unfoldable pub startOf : List ℕ → List ℕ → List Task → StartOutcome
 startOf file cells row = filled cells row (admitStartOf file (length cells) (length row))
 
--- ---- Begin: 1, 2, 3, 5, 7, 8, then 4 on the operation's entries, then 11, 9
+-- ---- Begin: 1, 2, 3, 5, 7, 8, then 4 on all entries, then 11, 9
 
 abbrev pub refuseBegin : Task → Refusal → Begin
 refuseBegin t c = record { task = t; answer = begin.Refused c }
@@ -133,7 +134,7 @@ beginIn file n i o t (admitted.Refused c) = refuseBegin t c
 beginIn file n i o t (admitted.Admits c shape) =
     cond (ltb i n)
     (cond (ltb o (shape .operations))
-    (cond (operationInRange file shape o) (beginFrom file shape o t (readRecord shape n c t)) (refuseBegin t cause.NextState))
+    (cond (entriesInRange file shape) (beginFrom file shape o t (readRecord shape n c t)) (refuseBegin t cause.NextState))
     (refuseBegin t cause.Operation))
     (refuseBegin t cause.Task)
 

@@ -5,5 +5,6 @@ pub mod Runs
 pub mod Opening
 pub mod Lent
 pub mod Statement
+pub mod Rest
 pub mod Cases
 pub mod Encoding

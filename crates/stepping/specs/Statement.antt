@@ -20,7 +20,9 @@ use Rattle.table.specs.declared.Checked.the-variants as table
 use Rattle.table.specs.File.{Bytes, shapeOf}
 use Rattle.table.specs.Layout.{layoutOf}
 use Rattle.table.specs.Check.{checkOf}
-use Rattle.table.specs.Entries.{entryOf, operationInRange, moves, changing}
+use Rattle.table.specs.Entries.{entryOf, moves}
+use Rattle.table.specs.Statement.{AllInRange, OutOfRange}
+use Rattle.reach.specs.Changing.{changing}
 use Rattle.machine.specs.Outcome.{Outcome}
 use Rattle.machine.specs.Calls.{Call, Step, Ended, Refused, Event}
 use Rattle.machine.specs.Book.{Operation, Book}
@@ -148,6 +150,22 @@ BeginRowJudged file n i o t = (beginSaid (beginTask file n i o t .answer) ≡ Re
 abbrev pub StepRowJudged : (file cells : List ℕ) (n i : ℕ) → Task → Type 0
 StepRowJudged file cells n i t = (stepSaid (stepTask file cells n i t .answer) ≡ Refused 5) ↔ RowRefused (layoutOf file) n
 
+-- ---- The entries that begin tests, for all arguments
+
+-- The tests of a begin before 4 are passed: 1, 2, 3, 5, 7 and 8.
+pub record BeginAsked (file : List ℕ) (n i o : ℕ) : Type 0 where
+  pub accepted : layoutOf file ≡ table.Accepted (shapeOf file)
+  pub some : 1 ≤ n
+  pub few : n ≤ 8
+  pub below : i < n
+  pub known : o < shapeOf file .operations
+
+-- Begin answers 4 exactly if they are passed and some entry of the table, of any operation, leads to no state of the table, whatever
+-- the record holds.
+abbrev pub BeginEntriesJudged : List ℕ → (n i o : ℕ) → Task → Type 0
+BeginEntriesJudged file n i o t =
+    (beginSaid (beginTask file n i o t .answer) ≡ Refused 4) ↔ (BeginAsked file n i o × OutOfRange file (shapeOf file))
+
 -- ---- Cells and records in form and out of form, for all arguments
 
 -- A record in form for n tasks of the table in a file.
@@ -162,14 +180,10 @@ pub record StepTested (file cells : List ℕ) (n i : ℕ) : Type 0 where
   pub long : length cells ≡ n + 1
   pub below : i < n
 
--- The tests of a begin before 11 are passed: 1, 2, 3, 5, 7, 8, and 4 on its operation's entries.
+-- The tests of a begin before 11 are passed: those before 4, and 4 on all entries.
 pub record BeginTested (file : List ℕ) (n i o : ℕ) : Type 0 where
-  pub accepted : layoutOf file ≡ table.Accepted (shapeOf file)
-  pub some : 1 ≤ n
-  pub few : n ≤ 8
-  pub below : i < n
-  pub known : o < shapeOf file .operations
-  pub ranged : operationInRange file (shapeOf file) o ≡ true
+  pub asked : BeginAsked file n i o
+  pub ranged : AllInRange file (shapeOf file)
 
 -- Then 11 is answered exactly if the record is out of form, whatever the cells hold.
 abbrev pub RecordJudged : (file cells : List ℕ) (n i : ℕ) → Task → Type 0

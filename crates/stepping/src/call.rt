@@ -25,7 +25,7 @@ ghost use mathlib.Core.Bool.{cond};
 ghost use Prim.Native.Nat.{_+_, _≤_, _<_};
 ghost use lib.ListN.{length};
 ghost use Rattle.cells.specs.Ceiling.{greatestCeiling};
-ghost use Rattle.table.specs.Entries.{changing};
+ghost use Rattle.reach.specs.Changing.{changing};
 ghost use Rattle.records.specs.Phase.{phaseOf, phaseNumber};
 ghost use Rattle.records.specs.Record.{idleInForm, readRecord};
 ghost use Rattle.transition.specs.Transition.{planOf};
@@ -107,7 +107,7 @@ fn refuse_begin(own: Task, cause: Refusal) -> Begin
 fn first_phase(file: &[u8], shape: Shape, operation: u16) -> u32
     ensures { λ r. ⌜ r ≡ cond (changing (now (file .entry)) shape operation) (phaseNumber Phase.Announce) (phaseNumber Phase.ReadOnly) ⌝ }
 {
-    if table::is_changing(file, shape, operation) {
+    if reach::is_changing(file, shape, operation) {
         return phase::phase_number(Phase::Announce);
     }
     phase::phase_number(Phase::ReadOnly)
@@ -160,7 +160,7 @@ fn begin_in(
         return refuse_begin(own, Refusal::Operation);
     }
     let chosen = operation as u16;
-    if !table::operation_in_range(file, shape, chosen) {
+    if !table::entries_in_range(file, shape) {
         return refuse_begin(own, Refusal::NextState);
     }
     let read = record::read_record(shape, tasks, ceiling, own);

@@ -6,7 +6,7 @@ use mathlib.Core.List.{List}
 use Prim.Native.Nat.{ℕ, _+_, _*_, _^_, _<_, _≤_}
 use native.Mathlib.Nat.{pow-le-pow-right}
 use native.Mathlib.Omega.{arith}
-use borrow.Author.Tests.{ltb-true, lt-ltb, eq-eqb, ne-eqb}
+use borrow.Author.Tests.{lt-ltb, eq-eqb, ne-eqb}
 use lib.Dec.{eqb, ltb}
 use lib.ListN.{getD}
 use Rattle.laws.specs.Decision.{decided}
@@ -30,6 +30,7 @@ use Rattle.machine.specs.Form.{CellFormed, HeadFormed, AnnouncementFormed, Head
 use Rattle.transition.specs.Transition.{stateIn, responseIn, movedIn}
 use Rattle.transition.specs.Object.{ObjectTable, objectOf}
 use Rattle.transition.specs.Encoding.{headIn, announcementIn, encodeHead, encodeAnnouncement}
+use Rattle.transition.proofs.Lawful.{good-below}
 
 -- ---- Cells of any kind of value
 
@@ -137,8 +138,8 @@ module _ (file : List ℕ) (shape : Shape) (table : ObjectTable file shape) (n :
 
   -- Values and marks in range fit their fields.
   head-fits : (v : HeadValue) (m : ℕ) → HeadValueFormed object n v → m < 2 ^ n → Fit headWidths (headValues (headIn v) m)
-  head-fits (Free q) m f l = let s : q < shape .states = ltb-true _ _ f in omega (arith, few-marks m l, fitting)
-  head-fits (Held q j r) m f l = let s : q < shape .states = ltb-true _ _ (f .0) in omega (arith, few-marks m l, fitting, bit-below (r .moved))
+  head-fits (Free q) m f l = let s : q < shape .states = good-below table q f in omega (arith, few-marks m l, fitting)
+  head-fits (Held q j r) m f l = let s : q < shape .states = good-below table q (f .0) in omega (arith, few-marks m l, fitting, bit-below (r .moved))
 
   content-fits : (v : Content) (m : ℕ) → ContentFormed object v → m < 2 ^ n → Fit announcementWidths (announcementValues (announcementIn v) m)
   content-fits Empty m f l = omega (arith, few-marks m l)
@@ -183,8 +184,8 @@ module _ (file : List ℕ) (shape : Shape) (table : ObjectTable file shape) (n :
     head-in-form = head-form (headIn (h .value)) (h .marks) (head-fits (h .value) (h .marks) (ranged .value) (ranged .marks)) (shape .states) n ∙ both (h .value) (ranged .value)
       where
         both : (v : HeadValue) → HeadValueFormed object n v → (ltb (h .marks) (2 ^ n) && headInRange (shape .states) n (headIn v)) ≡ true
-        both (Free q) f = rw (lt-ltb (h .marks) (2 ^ n) (ranged .marks), f)
-        both (Held q j r) f = rw (lt-ltb (h .marks) (2 ^ n) (ranged .marks), f .0, lt-ltb j (holderBound n) (omega (arith, f .1, most)))
+        both (Free q) f = rw (lt-ltb (h .marks) (2 ^ n) (ranged .marks), lt-ltb q (shape .states) (good-below table q f))
+        both (Held q j r) f = rw (lt-ltb (h .marks) (2 ^ n) (ranged .marks), lt-ltb q (shape .states) (good-below table q (f .0)), lt-ltb j (holderBound n) (omega (arith, f .1, most)))
 
   -- An announcement in range.
   module _ (a : Cell Content) (ranged : AnnouncementFormed object n a) where

@@ -5,7 +5,6 @@ use mathlib.Core.List.{List}
 use Prim.Native.Nat.{ℕ, _+_, _<_, _≤_}
 use native.Mathlib.Nat.{mod-eq-of-lt}
 use native.Mathlib.Omega.{arith}
-use borrow.Author.Tests.{ltb-true}
 use Rattle.cells.specs.Field.{pack}
 use Rattle.cells.specs.Layout.{marksWidth, headOf, announcementWord}
 use Rattle.cells.specs.declared.announcement.Announcement.the-variants as content
@@ -23,6 +22,7 @@ use Rattle.transition.specs.declared.access.Access.the-variants.{Swap}
 use Rattle.transition.specs.Transition.{stateIn, responseIn, movedIn, named, clearedWord, appliedWord, operationWord, responseWord, planOf}
 use Rattle.transition.specs.Object.{ObjectTable, objectOf}
 use Rattle.transition.specs.Encoding.{announcementIn, encodeHead, encodeAnnouncement, kept, encodeTask, encodeAccess}
+use Rattle.transition.proofs.Lawful.{good-below}
 use Rattle.transition.proofs.EncodedCells.{state-in, response-in, moved-in, head-read, head-linked, head-released, announcement-linked, announcement-released}
 
 -- The record of a task in a phase, with its priority, operation and steps.
@@ -50,7 +50,7 @@ module _ (file : List ℕ) (shape : Shape) (table : ObjectTable file shape) (n :
 
     -- The entry of the head's state is in range.
     pub head-entry : (o : ℕ) → o < shape .operations → entryInRange file shape (stateIn (headOf (encodeHead h))) o ≡ true
-    head-entry o l = rw head-state (accepted-entry file shape (table .accepted) (stateOf (h .value)) o (ltb-true _ _ (state-good object n (h .value) (ranged .value))) l)
+    head-entry o l = rw head-state (accepted-entry file shape (table .accepted) (stateOf (h .value)) o (good-below table _ (state-good object n (h .value) (ranged .value))) l)
 
     cleared-word : clearedWord (encodeHead h) ≡ encodeHead (machine.cleared h)
     unfolding clearedWord

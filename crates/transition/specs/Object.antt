@@ -2,13 +2,13 @@
 use mathlib.Core.Path.{_≡_}
 use mathlib.Core.List.{List}
 use Prim.Native.Nat.{ℕ, _^_}
-use lib.Dec.{ltb}
 use Rattle.cells.specs.Layout.{responseWidth}
 use Rattle.table.specs.declared.Shape.{Shape}
 use Rattle.table.specs.declared.Checked.the-variants as table
 use Rattle.table.specs.File.{Bytes}
 use Rattle.table.specs.Check.{checkOf}
-use Rattle.table.specs.Entries.{entryOf, moves, changing}
+use Rattle.table.specs.Entries.{entryOf, moves}
+use Rattle.reach.specs.Changing.{reachable, changing}
 use Rattle.machine.specs.Object.{Object}
 
 -- A file of bytes that is accepted as a table of this shape.
@@ -17,7 +17,7 @@ pub record ObjectTable (file : List ℕ) (shape : Shape) : Type 0 where
   pub accepted : checkOf file ≡ table.Accepted shape
 
 -- Its object: next state and response stand in its entries, an entry with another next state than its own moves the state, and the
--- good states are those of the table.
+-- good states are those that can be reached from the start state.
 abbrev pub objectOf : List ℕ → Shape → Object
 objectOf file shape = record {
   next = λ q o. entryOf file shape q o .next;
@@ -25,5 +25,5 @@ objectOf file shape = record {
   changing = changing file shape;
   operations = shape .operations;
   outcomes = 2 ^ responseWidth;
-  good = λ q. ltb q (shape .states);
+  good = reachable file shape;
 }

@@ -21,7 +21,7 @@ use Rattle.table.specs.declared.Checked.{Checked}
 use Rattle.table.specs.declared.Checked.the-variants as table
 use Rattle.table.specs.File.{shapeOf}
 use Rattle.table.specs.Layout.{layoutOf, fileFits, dimensionsFit, lengthFits}
-use Rattle.table.specs.Entries.{operationInRange}
+use Rattle.table.specs.Entries.{entriesInRange}
 use Rattle.machine.specs.Calls.{Refused}
 use Rattle.records.specs.declared.record.Task.{Task}
 use Rattle.records.specs.declared.phase.PhaseRead.{PhaseRead}
@@ -102,7 +102,7 @@ module _ (file : List ℕ) (n i o : ℕ) (t : Task) (below : i < n) where
   begin-in (admitted.Admits c shape) h =
       choice-by BeginsOwn (ltb i n)
       (λ _. choice BeginsOwn (ltb o (shape .operations)) _ _
-      (choice BeginsOwn (operationInRange file shape o) _ _ (begin-from shape c (readRecord shape n c t) refl) (begin-refused t cause.NextState (known 4 (omega arith) (λ z. omega (arith, z)))))
+      (choice BeginsOwn (entriesInRange file shape) _ _ (begin-from shape c (readRecord shape n c t) refl) (begin-refused t cause.NextState (known 4 (omega arith) (λ z. omega (arith, z)))))
       (begin-refused t cause.Operation (known 8 (omega arith) (λ z. omega (arith, z)))))
       (λ z. absurd (omega (arith, ltb-false i n z)))
 

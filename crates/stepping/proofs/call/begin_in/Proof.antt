@@ -23,8 +23,8 @@ returns-2 c = simp (c .refuse-begin2 .ensures, le-ltb _ _ (c .before .if2 .taken
 cast-chosen : tie.Need-cast-chosen
 cast-chosen c = search needs
 
-operation-in-range-requires : tie.Need-operation-in-range-requires
-operation-in-range-requires c κs = search needs
+entries-in-range-requires : tie.Need-entries-in-range-requires
+entries-in-range-requires c κs = search needs
 
 refuse-begin-requires-3 : tie.Need-refuse-begin-requires-3
 refuse-begin-requires-3 c κs = search needs
@@ -33,7 +33,7 @@ returns-3 : tie.Need-returns-3
 returns-3 c =
     simp (
       c .refuse-begin3 .ensures,
-      sym (c .before .before .operation-in-range .ensures) ∙ not-true (c .before .before .operation-in-range .result) (c .before .if3 .taken),
+      sym (c .before .before .entries-in-range .ensures) ∙ not-true (c .before .before .entries-in-range .result) (c .before .if3 .taken),
       lt-ltb _ _ (c .before .before .before .if2 .left),
       lt-ltb _ _ (c .before .before .before .before .before .if1 .left),
     )
@@ -58,7 +58,7 @@ returns-4 c =
     simp (
       c .refuse-begin4 .ensures,
       sym (c .before .before .before .before .read-record .ensures) ∙ c .before .before .read .given .1,
-      sym (c .before .before .before .before .before .before .operation-in-range .ensures) ∙ not-false (c .before .before .before .before .before .before .operation-in-range .result) (c .before .before .before .before .before .if3 .left),
+      sym (c .before .before .before .before .before .before .entries-in-range .ensures) ∙ not-false (c .before .before .before .before .before .before .entries-in-range .result) (c .before .before .before .before .before .if3 .left),
       lt-ltb _ _ (c .before .before .before .before .before .before .before .if2 .left),
       lt-ltb _ _ (c .before .before .before .before .before .before .before .before .before .if1 .left),
     )
@@ -68,7 +68,7 @@ returns-5 c =
     simp (
       c .begin-from .ensures,
       sym (c .before .before .before .read-record .ensures) ∙ c .before .enum-told .given .1,
-      sym (c .before .before .before .before .before .operation-in-range .ensures) ∙ not-false (c .before .before .before .before .before .operation-in-range .result) (c .before .before .before .before .if3 .left),
+      sym (c .before .before .before .before .before .entries-in-range .ensures) ∙ not-false (c .before .before .before .before .before .entries-in-range .result) (c .before .before .before .before .if3 .left),
       lt-ltb _ _ (c .before .before .before .before .before .before .if2 .left),
       lt-ltb _ _ (c .before .before .before .before .before .before .before .before .if1 .left),
     )
@@ -83,7 +83,7 @@ begin-in-spec =
     refuse-begin-requires-2
     returns-2
     cast-chosen
-    operation-in-range-requires
+    entries-in-range-requires
     refuse-begin-requires-3
     returns-3
     read-record-requires
