@@ -259,7 +259,7 @@ pub extern "C" fn drive_window(
 ) -> u64
     ensures { λ r. ⌜ (now (cells .exit) ≡ windowOf (now (file .entry)) (now (cells .entry)) (now (row .entry)) (now (windows .entry)) task .cells) × (now (row .exit) ≡ windowOf (now (file .entry)) (now (cells .entry)) (now (row .entry)) (now (windows .entry)) task .row) × (now (windows .exit) ≡ windowOf (now (file .entry)) (now (cells .entry)) (now (row .entry)) (now (windows .entry)) task .windows) × (r ≡ windowWord (windowOf (now (file .entry)) (now (cells .entry)) (now (row .entry)) (now (windows .entry)) task .answer)) ⌝ }
 {
-    window_word(window::serve_window(file, cells, row, windows, task))
+    window_word(window_calls::serve_window(file, cells, row, windows, task))
 }
 
 // Whether the interrupt line of a task is up.
@@ -267,7 +267,7 @@ pub extern "C" fn drive_window(
 pub extern "C" fn drive_window_line(windows: &[u8], tasks: usize, task: usize) -> u64
     ensures { λ r. ⌜ r ≡ lineWord (lineOf (now (windows .entry)) tasks task) ⌝ }
 {
-    line_word(window::line(windows, tasks, task))
+    line_word(window_calls::line(windows, tasks, task))
 }
 
 // Which ring owns a chainage.

@@ -10,7 +10,7 @@ use lib.ListN.{length, getD, set, length-set}
 use lib.Seq.{getD-set-same, getD-set-other, set-getD}
 use Rattle.refusal.specs.declared.Refusal.{Refusal}
 use Rattle.refusal.specs.Number.{numberOf}
-use Rattle.window.specs.declared.status.Status.{Status}
+use Rattle.window.specs.declared.Status.{Status}
 use Rattle.window.specs.Window.{byteAt, withByte, on, statusOf, statusByte, interruptByte, statusAt}
 use Rattle.window.specs.Statement.{BitsNamed}
 use Rattle.window.specs.Written.{refusedStatus, begunStatus, endedStatus, acknowledgedStatus, taken, refusedIn, begunIn, endedIn, acknowledgedIn}

@@ -22,7 +22,7 @@ use Rattle.stepping.specs.Runs.{Store, serveOf, historyOf}
 use Rattle.stepping.specs.Opening.{Opening, shown}
 use Rattle.stepping.proofs.Continued.{pending-more}
 use Rattle.stepping.proofs.Theorem.{demands-met, in-form-throughout}
-use Rattle.window.specs.declared.status.Status.{Status}
+use Rattle.window.specs.declared.Status.{Status}
 use Rattle.window.specs.declared.WindowAnswer.{WindowAnswer}
 use Rattle.window.specs.declared.WindowAnswer.the-variants as window
 use Rattle.window.specs.Window.{byteAt, on, statusOf, statusAt, interruptAt}

@@ -10,7 +10,7 @@ use lib.ListN.{length, getD}
 use Rattle.refusal.specs.declared.Refusal.{Refusal}
 use Rattle.refusal.specs.declared.Refusal.the-variants as cause
 use Rattle.records.specs.declared.record.Task.{Task}
-use Rattle.window.specs.declared.status.Status.{Status}
+use Rattle.window.specs.declared.Status.{Status}
 use Rattle.window.specs.Window.{byteAt, statusByte, statusAt}
 use Rattle.window.specs.Written.{refusedStatus, begunStatus, endedStatus, acknowledgedStatus, taken, refusedIn, begunIn, endedIn, acknowledgedIn}
 use Rattle.window.specs.Serve.{WindowOutcome}

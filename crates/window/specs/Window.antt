@@ -7,7 +7,7 @@ use lib.ListN.{length, getD, set}
 use Rattle.refusal.specs.declared.Refusal.the-variants as cause
 use Rattle.window.specs.declared.Place.{Place}
 use Rattle.window.specs.declared.Place.the-variants as place
-use Rattle.window.specs.declared.status.Status.{Status}
+use Rattle.window.specs.declared.Status.{Status}
 
 -- Byte k of the window of task t; the windows stand one after another.
 abbrev pub byteAt : List ℕ → (t k : ℕ) → ℕ

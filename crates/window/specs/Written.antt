@@ -9,7 +9,7 @@ use Rattle.stepping.specs.declared.answer.BeginAnswer.{BeginAnswer}
 use Rattle.stepping.specs.declared.answer.BeginAnswer.the-variants as begin
 use Rattle.stepping.specs.declared.answer.StepAnswer.{StepAnswer}
 use Rattle.stepping.specs.declared.answer.StepAnswer.the-variants as step
-use Rattle.window.specs.declared.status.Status.{Status}
+use Rattle.window.specs.declared.Status.{Status}
 use Rattle.window.specs.Window.{byteAt, withByte, statusByte, statusAt, interruptByte}
 
 -- ---- The status after a command

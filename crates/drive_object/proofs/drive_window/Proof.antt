@@ -9,10 +9,10 @@ use Rattle.window.specs.declared.WindowAnswer.{WindowAnswer}
 use Rattle.window.proofs.WindowAnswer as N
 use Rattle.window.proofs.WindowAnswer.Laws as N′
 use Rattle.window.specs.Serve.{WindowOutcome, windowOf}
-use Rattle.window.proofs.serve_window as called
-use Rattle.window.proofs.serve_window.Symbol as called-def
-use Rattle.window.proofs.serve_window.Symbol.{name as #window·serve-window}
-use Rattle.window.proofs.serve_window.Met as called-thm
+use Rattle.window_calls.proofs.serve_window as called
+use Rattle.window_calls.proofs.serve_window.Symbol as called-def
+use Rattle.window_calls.proofs.serve_window.Symbol.{name as #window-calls·serve-window}
+use Rattle.window_calls.proofs.serve_window.Met as called-thm
 use Rattle.drive_object.specs.Word.{windowWord}
 use Rattle.drive_object.proofs.window_word as word
 use Rattle.drive_object.proofs.window_word.Symbol as word-def
@@ -48,7 +48,7 @@ module _ {M : Type 1} (𝓤 : URA M) (H : Heap 𝓤) (A : Atoms 𝓤) (at-mem : 
   abbrev told : WindowAnswer → Val → Word .Ghost
   told b v = ((tt, tt, tt, (b, tt), (v ∷ [], tt)), tt)
 
-  module _ (W : Given 𝓤 H A) (C : Calls 𝓤 H) (Λ : Loops 𝓤 H) (fm : FmC 𝓤 H (W .laws) C) (known : Triple 𝓤 (C #window·serve-window) Call) (known-w : Triple 𝓤 (C #word) Word) (κs : Lfts 4) (qs : Shares 4) (a : Args fn.signature κs) where
+  module _ (W : Given 𝓤 H A) (C : Calls 𝓤 H) (Λ : Loops 𝓤 H) (fm : FmC 𝓤 H (W .laws) C) (known : Triple 𝓤 (C #window-calls·serve-window) Call) (known-w : Triple 𝓤 (C #word) Word) (κs : Lfts 4) (qs : Shares 4) (a : Args fn.signature κs) where
     abbrev y : Passed fn.signature params 𝓤 H A W (fn.clauses 𝓤 H A at-mem run)
     y = ((κs, qs, tt, a, passedAs fn.signature params κs a), tt)
 
@@ -87,6 +87,6 @@ drive-window-spec 𝓤 H 𝓜 𝓖 𝓡 =
     meets-by-walk 𝓤 H 𝓜 𝓖 𝓡 fn.signature params (fn.clauses 𝓤 H (𝓖 .A) (𝓜 .mem) (𝓡 .run)) code.env #drive-window code.function (code.unfolded 𝓤 H 𝓜 𝓡)
     (λ fm κs qs bounds a g are. via 𝓤 _ (fst∗ 𝓤 _ (emp 𝓤))
     (walk 𝓤 H (𝓖 .A) (𝓜 .mem) (𝓡 .run) (givenOf 𝓤 H 𝓜 𝓖) (tables 𝓤 H 𝓜 𝓡 code.env .C) (tables 𝓤 H 𝓜 𝓡 code.env .Λ) fm
-    (cited 𝓤 H (Call 𝓤 H (𝓖 .A) (𝓜 .mem) (𝓡 .run)) 𝓜 𝓡 code.env #window·serve-window called-def.routine code.calls-window·serve-window (called-thm.met 𝓤 H 𝓜 𝓖 𝓡))
+    (cited 𝓤 H (Call 𝓤 H (𝓖 .A) (𝓜 .mem) (𝓡 .run)) 𝓜 𝓡 code.env #window-calls·serve-window called-def.routine code.calls-window-calls·serve-window (called-thm.met 𝓤 H 𝓜 𝓖 𝓡))
     (cited 𝓤 H (Word 𝓤 H (𝓖 .A) (𝓜 .mem) (𝓡 .run)) 𝓜 𝓡 code.env #word word-def.routine code.calls-drive-object·window-word (word-thm.met 𝓤 H 𝓜 𝓖 𝓡))
     κs qs a (are .0 .0 .1) (are .1 .0 .0 .1) (are .1 .1 .0 .0 .1) (are .1 .1 .1 .0 .0 .1) (are .1 .1 .1 .1 .0 .1)))

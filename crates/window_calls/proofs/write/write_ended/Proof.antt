@@ -1,0 +1,53 @@
+-- Bytes 1, 2, 3 and 5 are written, one after another.
+use borrow.Author.Needs.{needs}
+use Rattle.window_calls.proofs.write.write_ended.Statement.{statement}
+use Rattle.window_calls.proofs.write.write_ended.Tie as tie
+
+byte-at-requires : tie.Need-byte-at-requires
+byte-at-requires c κs = search needs
+
+ended-byte-requires : tie.Need-ended-byte-requires
+ended-byte-requires c κs = search needs
+
+byte-at-requires-2 : tie.Need-byte-at-requires-2
+byte-at-requires-2 c κs = search needs
+
+interrupt-byte-requires : tie.Need-interrupt-byte-requires
+interrupt-byte-requires c κs = search needs
+
+take-requires : tie.Need-take-requires
+take-requires c κs = search needs
+
+put-requires : tie.Need-put-requires
+put-requires c κs = search needs
+
+cast-put : tie.Need-cast-put
+cast-put c = search needs
+
+put-requires-2 : tie.Need-put-requires-2
+put-requires-2 c κs = search needs
+
+put-requires-3 : tie.Need-put-requires-3
+put-requires-3 c κs = search needs
+
+same-length : tie.Need-same-length
+same-length c = search needs
+
+returns : tie.Need-returns
+returns c = cc
+
+pub write-ended-spec : {M : Type 1} → statement M
+write-ended-spec =
+    tie.close
+    (tie.spec
+    byte-at-requires
+    ended-byte-requires
+    byte-at-requires-2
+    interrupt-byte-requires
+    take-requires
+    put-requires
+    cast-put
+    put-requires-2
+    put-requires-3
+    same-length
+    returns)
