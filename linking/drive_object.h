@@ -160,8 +160,9 @@ uint64_t drive_start(const uint8_t *file, size_t file_length, uint64_t *cells, s
                      size_t task_count);
 
 /*
- * Begins an operation for a task. Tests 1, 2, 3, 5, 7, 8, then 4 on the operation's entries, then 11, 9. Writes the
- * task's record, and leaves the row's other records and every cell. Its cost grows with the number of states.
+ * Begins an operation for a task. Tests 1, 2, 3, 5, 7, 8, then 4 on all entries, also those of other operations and of
+ * states that can't be reached, then 11, 9. Writes the task's record, and leaves the row's other records and every cell.
+ * Its cost grows with states times operations.
  */
 uint64_t drive_begin(const uint8_t *file, size_t file_length, drive_task *row, size_t task_count, size_t task,
                      size_t operation);

@@ -14,7 +14,7 @@
 
 #include "../drive_object.h"
 
-enum { TRAP_FLAG = 0x100, STATES = 256, OPERATIONS = 32, TEXT = 4096, READING = 0 };
+enum { TRAP_FLAG = 0x100, STATES = 256, OPERATIONS = 32, TEXT = 4096 };
 
 /* The steps of each random run; and how many of those with the same number of tasks, the same phase before and the same
  * phase or refusal after are watched. */
@@ -197,7 +197,7 @@ static bool is_rare(enum by by, const struct lent *lent, size_t task) {
     return watched[lent->tasks][by][before][outcome]++ < SAMPLES;
 }
 
-/* Makes the command that is put into the task's window, whose operation is the reading one. */
+/* Makes the command that is put into the task's window, whose operation is 0. */
 static void command(struct lent *lent, size_t task, uint8_t number, const char *where) {
     size_t tasks = lent->tasks;
     size_t length = tasks * DRIVE_WINDOW_BYTES;
@@ -236,15 +236,20 @@ static void random_run(enum by by, size_t tasks) {
     }
 }
 
+/* The state that operation 0 moves is met last, so that begin looks at all states before it calls the operation changing. */
 static void start_and_begins(size_t tasks) {
-    const char *where = "a reading operation of the largest table";
+    const char *where = "an operation of the largest table that moves the state met last alone";
     struct lent lent = {.tasks = tasks};
     WATCHED(START, "the largest table", drive_start, file, file_length, lent.cells, tasks + 1, lent.row, tasks);
     drive_task own = lent.row[0];
     struct lent by_window = lent;
+    uint8_t *next = &file[TEXT + 2 * OPERATIONS * (STATES - 1)];
+    uint8_t kept = *next;
+    *next = 0;
     command(&by_window, 0, BEGIN_COMMAND, where);
-    WATCHED(BEGIN, where, drive_begin, file, file_length, lent.row, tasks, 0, READING);
-    WATCHED(BEGIN_RECORD, where, drive_begin_record, file, file_length, tasks, 0, READING, &own);
+    WATCHED(BEGIN, where, drive_begin, file, file_length, lent.row, tasks, 0, 0);
+    WATCHED(BEGIN_RECORD, where, drive_begin_record, file, file_length, tasks, 0, 0, &own);
+    *next = kept;
 }
 
 /* A line that is up, of the last task. */

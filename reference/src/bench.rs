@@ -71,7 +71,7 @@ pub fn text_of(printed: Printed) -> String {
 
 impl<'a> Bench<'a> {
     pub fn new(file: &'a [u8]) -> Result<Bench<'a>, Refusal> {
-        let table = Table::check(file)?;
+        let table = Table::check(file)?.with_changing_noted();
         Ok(Bench { table, run: None })
     }
 

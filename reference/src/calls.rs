@@ -26,7 +26,7 @@ pub fn begin(table: &Table, row: &mut [Record], task: usize, operation: usize) -
     test_row(row)?;
     test_task(row, task)?;
     refuse_unless(operation < table.operations, Refusal::Operation)?;
-    table.test_operation_entries(operation)?;
+    table.test_all_entries()?; // All of them: which states can be reached depends on every one.
     test_record(table, row, task)?;
     let old = row[task];
     refuse_unless(!old.is_pending(), Refusal::Pending)?;
@@ -181,19 +181,6 @@ mod tests {
         row[1].priority = 2;
         assert_eq!(begin(&table, &mut row, 1, 0), Err(Refusal::Record));
         assert_eq!(begin(&table, &mut row, 0, 0), Ok(()));
-    }
-
-    #[test]
-    fn begin_tests_all_entries_of_its_operation_and_no_others() {
-        let mut file = TableFile::flag();
-        file.entries[8] = 2;
-        let table = Table::read(file.kept()).unwrap();
-        let mut row = [Record::default()];
-        assert_eq!(begin(&table, &mut row, 0, 1), Err(Refusal::NextState));
-        assert_eq!(begin(&table, &mut row, 0, 2), Ok(()));
-        row[0].phase = 15;
-        assert_eq!(begin(&table, &mut row, 0, 1), Err(Refusal::NextState));
-        assert_eq!(begin(&table, &mut row, 0, 2), Err(Refusal::Record));
     }
 
     #[test]

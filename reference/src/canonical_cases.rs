@@ -4,8 +4,8 @@
 use std::collections::BTreeSet;
 
 use crate::random::Random;
+use crate::reachable::reachable;
 use crate::redrawn::{parted_states, place, renumbered, some_place, with_spare_states, Change};
-use crate::renumbering::reachable;
 use crate::table::{Table, MOST_FILE_BYTES, MOST_STATES, MOST_TEXT_BYTES, TRAILER_BYTES};
 use crate::table_cases::{random_table, sized, Case};
 use crate::table_file::TableFile;

@@ -4,7 +4,6 @@ use crate::explore::{Graph, MOST_EXPLORED_TASKS};
 use crate::longest::longest_own_steps;
 use crate::objects::explored_objects;
 use crate::random_runs;
-use crate::transition::System;
 
 /// The longest counts of own steps that the design states for one and two tasks.
 const STATED_LONGEST: [u32; MOST_EXPLORED_TASKS] = [17, 124];
@@ -24,9 +23,9 @@ fn explore_objects(tasks: usize) -> Result<String, String> {
     let mut points = 0;
     let mut transitions = 0;
     let mut longest = 0;
-    for (name, table) in explored_objects() {
-        let graph = Graph::explore(System::of_machine(&table), tasks)
-            .map_err(|message| format!("{name}: {message}"))?;
+    for object in explored_objects() {
+        let graph = Graph::explore(object.system(), tasks)
+            .map_err(|message| format!("{}: {message}", object.name))?;
         points += graph.count_points();
         transitions += graph.count_transitions();
         for task in 0..tasks {
@@ -50,8 +49,8 @@ fn run_schedules() -> Result<String, String> {
     let mut ended = 0;
     let mut most_own_steps = 0;
     for tasks in 3..=8 {
-        for (seed, (_, table)) in explored_objects().iter().enumerate() {
-            let findings = random_runs::run(System::of_machine(table), tasks, RANDOM_CALLS, seed as u64)?;
+        for (seed, object) in explored_objects().iter().enumerate() {
+            let findings = random_runs::run(object.system(), tasks, RANDOM_CALLS, seed as u64)?;
             calls += findings.calls;
             ended += findings.ended;
             most_own_steps = most_own_steps.max(findings.most_own_steps);

@@ -4,7 +4,6 @@ use crate::book::Book;
 use crate::configuration::{Call, Configuration};
 use crate::machine::Answer;
 use crate::record::Record;
-use crate::table::Table;
 use crate::transition::{Checked, System};
 
 pub const MOST_EXPLORED_TASKS: usize = 2;
@@ -75,15 +74,15 @@ pub type Make<'a> = dyn Fn(&Configuration, Call) -> Checked + 'a;
 impl Graph {
     /// Explores from the start; the first transition that breaks a rule ends it.
     pub fn explore(system: System, tasks: usize) -> Result<Graph, String> {
-        Graph::explore_by(system.table, tasks, &|before, call| {
+        Graph::explore_by(system, tasks, &|before, call| {
             system.make_checked(before, call, &mut Book::of(before))
         })
     }
 
     /// Explores by what makes and checks a call.
-    pub fn explore_by(table: &Table, tasks: usize, make: &Make) -> Result<Graph, String> {
+    pub fn explore_by(system: System, tasks: usize, make: &Make) -> Result<Graph, String> {
         assert!(tasks <= MOST_EXPLORED_TASKS);
-        let start = Configuration::started(table, tasks)
+        let start = Configuration::started(system.table, tasks)
             .map_err(|refusal| format!("start answers {}", refusal.number()))?;
         let mut graph = Graph {
             tasks,
@@ -96,22 +95,22 @@ impl Graph {
         let mut next = 0;
         while next < graph.points.len() {
             graph.first_edges.push(graph.edges.len());
-            graph.leave(table, make, next)?;
+            graph.leave(system.begun, make, next)?;
             next += 1;
         }
         graph.first_edges.push(graph.edges.len());
         Ok(graph)
     }
 
-    /// Makes every accepted call at a point.
-    fn leave(&mut self, table: &Table, make: &Make, number: usize) -> Result<(), String> {
+    /// Makes at a point every step, and every begin of an operation below a number, that is accepted.
+    fn leave(&mut self, begun: usize, make: &Make, number: usize) -> Result<(), String> {
         let before = unpack(&self.points[number], self.tasks);
         for task in 0..self.tasks {
             if before.record(task).is_pending() {
                 self.follow(make, &before, Call::Step { task }, task)?;
                 continue;
             }
-            for operation in 0..table.operations {
+            for operation in 0..begun {
                 self.follow(make, &before, Call::Begin { task, operation }, task)?;
             }
         }
@@ -231,8 +230,8 @@ mod tests {
 
     #[test]
     fn one_task_is_explored_whole() {
-        for (name, table) in explored_objects() {
-            let graph = Graph::explore(System::of_machine(&table), 1).expect(name);
+        for object in explored_objects() {
+            let graph = Graph::explore(object.system(), 1).expect(object.name);
             assert!(graph.count_transitions() >= graph.count_points());
         }
     }

@@ -37,6 +37,8 @@ pub mod potential;
 mod process;
 pub mod random;
 mod random_runs;
+pub mod reach_cases;
+pub mod reachable;
 mod reading_cases;
 pub mod record;
 mod redrawn;
@@ -49,6 +51,8 @@ pub mod reply;
 mod rules;
 pub mod script_cases;
 mod search;
+#[cfg(test)]
+mod spare_state_tests;
 #[cfg(test)]
 mod strategies;
 pub mod table;

@@ -81,6 +81,7 @@ fn bench_tables() -> Vec<(&'static str, Option<TableFile>)> {
         ("listing_marks", Some(flag())),
         ("listing_next_state", Some(last_leads_out)),
         ("listing_no_table", None),
+        ("listing_spare_state", Some(TableFile::spare_state())),
         ("listing_text_4096", Some(longest_file())),
         (
             "listing_text_4097",
@@ -133,11 +134,23 @@ mod tests {
                 "listing_dimensions" => "x 2\n",
                 "listing_text_4097" => "x 3\n",
                 "listing_next_state" => "x 4\n",
+                "listing_spare_state" => "ok 3 2 0 01\n",
                 "listing_text_4096" => "ok 256 32 250 01111111111111111111111111111111\n",
                 _ => "ok 2 3 0 011\n",
             };
             assert_eq!(report, expected, "{name}");
         }
+    }
+
+    /// Operation 0 reads, though it would move the spare state: while it is pending the cells are the image of state 1.
+    #[test]
+    fn the_listing_with_a_spare_state_rests_while_operation_0_is_pending() {
+        let lines = b"n 1\nb 0 1\nd 0\nb 0 0\nm\ns 0\nm\n";
+        let image = "m 0000000000000100 0000000000000000 0\n";
+        assert_eq!(
+            output(&TableFile::spare_state().to_bytes(), lines),
+            format!("n 1 3 2\nr 0 11 1\n{image}r 0 20 0\n{image}")
+        );
     }
 
     #[test]

@@ -5,13 +5,12 @@ use std::path::Path;
 use std::process::ExitCode;
 
 use reference::compare_bench::{compare_bench, RANDOM_SCRIPTS};
+use reference::compare_tables::{compare_tables, GENERATED_TABLES};
 use reference::listings::{check_listings, write_listings};
-use reference::{
-    bench, ceiling, compare_tables, exploration, kernel, long_operations, table, trace, trace_event,
-};
+use reference::{bench, ceiling, exploration, kernel, long_operations, table, trace, trace_event};
 
 const USAGE: &str = "usage: reference check-table < FILE
-       reference compare-tables PATH_TO_check_table
+       reference compare-tables PATH_TO_check_table [COUNT]
        reference explore
        reference search [TASKS]
        reference longest [TASKS]
@@ -26,7 +25,10 @@ fn main() -> ExitCode {
     let words: Vec<&str> = arguments.iter().map(String::as_str).collect();
     let result = match words.as_slice() {
         ["check-table"] => check_table(),
-        ["compare-tables", program] => compare_tables::compare_tables(program).map(print_line),
+        ["compare-tables", program] => compare_tables(program, GENERATED_TABLES).map(print_line),
+        ["compare-tables", program, count] => {
+            number(count).and_then(|count| compare_tables(program, count).map(print_line))
+        }
         ["explore"] => exploration::explore_all().map(print_line),
         ["search"] => long_operations::search_for(&[1, 2, 3, 4, 5, 6, 7, 8]),
         ["search", tasks] => task_count(tasks).and_then(|tasks| long_operations::search_for(&[tasks])),
@@ -35,10 +37,9 @@ fn main() -> ExitCode {
         ["bench"] => bench_here(),
         ["trace", table, lines] => trace_files(table, lines),
         ["compare-bench", program] => compare_bench(program, RANDOM_SCRIPTS).map(print_line),
-        ["compare-bench", program, count] => match count.parse() {
-            Ok(count) => compare_bench(program, count).map(print_line),
-            Err(_) => Err(USAGE.to_string()),
-        },
+        ["compare-bench", program, count] => {
+            number(count).and_then(|count| compare_bench(program, count).map(print_line))
+        }
         ["listings", crates] => write_listings(crates).map(print_line),
         ["listings", crates, "--check"] => check_listings(crates).map(print_line),
         ["kernel"] => kernel::listing().map(|listing| print!("{listing}")),
@@ -59,6 +60,10 @@ fn task_count(word: &str) -> Result<usize, String> {
         Ok(tasks) if ceiling::ceiling(tasks).is_ok() => Ok(tasks),
         _ => Err(USAGE.to_string()),
     }
+}
+
+fn number(word: &str) -> Result<u64, String> {
+    word.parse().map_err(|_| USAGE.to_string())
 }
 
 fn print_line(line: String) {

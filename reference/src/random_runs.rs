@@ -26,21 +26,22 @@ pub struct Findings {
 /// Makes a number of calls, checks each, and at the end replays the order.
 pub fn run(system: System, tasks: usize, calls: usize, seed: u64) -> Result<Findings, String> {
     let make = |before: &Configuration, call, book: &mut Book| system.make_checked(before, call, book);
-    run_by(system.table, tasks, calls, seed, make)
+    run_by(system, tasks, calls, seed, make)
 }
 
 /// Makes a number of calls by what makes and checks one, and at the end replays the order.
 pub fn run_by(
-    table: &Table,
+    system: System,
     tasks: usize,
     calls: usize,
     seed: u64,
     make: impl Fn(&Configuration, Call, &mut Book) -> Checked,
 ) -> Result<Findings, String> {
+    let table = system.table;
     let mut point = Configuration::started(table, tasks)
         .map_err(|refusal| format!("start answers {}", refusal.number()))?;
     let mut book = Book::new(table, tasks);
-    let mut schedule = Schedule::new(tasks, table.operations, seed);
+    let mut schedule = Schedule::new(system, tasks, seed);
     let mut history = History::new(tasks);
     for place in 0..calls {
         let call = schedule.next_call(&point);
@@ -61,6 +62,8 @@ pub fn run_by(
 struct Schedule {
     random: Random,
     tasks: usize,
+    /// Operations below this one are begun.
+    begun: usize,
     operations: usize,
     burst: usize,
     favourite: usize,
@@ -68,11 +71,12 @@ struct Schedule {
 }
 
 impl Schedule {
-    fn new(tasks: usize, operations: usize, seed: u64) -> Schedule {
+    fn new(system: System, tasks: usize, seed: u64) -> Schedule {
         Schedule {
             random: Random::new(seed),
             tasks,
-            operations,
+            begun: system.begun,
+            operations: system.table.operations,
             burst: 0,
             favourite: 0,
             stopped: 0,
@@ -88,7 +92,7 @@ impl Schedule {
             true => Call::Step { task },
             false => Call::Begin {
                 task,
-                operation: self.random.below(self.operations),
+                operation: self.random.below(self.begun),
             },
         }
     }
@@ -100,8 +104,17 @@ impl Schedule {
             true => Call::Step { task },
             false => Call::Begin {
                 task,
-                operation: self.random.below(self.operations + 2),
+                operation: self.any_operation(),
             },
+        }
+    }
+
+    /// One that is begun, or one of the two behind the last.
+    fn any_operation(&mut self) -> usize {
+        let operation = self.random.below(self.begun + 2);
+        match operation < self.begun {
+            true => operation,
+            false => operation - self.begun + self.operations,
         }
     }
 
@@ -201,20 +214,20 @@ impl History {
 #[cfg(test)]
 mod tests {
     use super::*;
-    use crate::objects::explored_objects;
+    use crate::objects::{explored_objects, flag};
 
     #[test]
     fn schedules_of_all_numbers_of_tasks_keep_the_rules() {
-        for (_, table) in &explored_objects() {
+        for object in &explored_objects() {
             for tasks in 1..=8 {
-                let findings = run(System::of_machine(table), tasks, 3_000, 5).unwrap();
+                let findings = run(object.system(), tasks, 3_000, 5).unwrap();
                 assert!(findings.ended > 20, "{tasks} tasks: {}", findings.ended);
             }
         }
     }
 
     fn history_of_one(response: u16, moved: bool) -> (History, Book, Table<'static>) {
-        let (_, table) = explored_objects().remove(0);
+        let table = flag();
         let mut history = History::new(1);
         let answer = Answer::Ended {
             response,

@@ -1,7 +1,7 @@
 //! A table drawn again: its states renumbered at random, with spare states, and with at most one change.
 
 use crate::random::Random;
-use crate::renumbering::reachable;
+use crate::reachable::reachable;
 use crate::table::{Table, MOST_OPERATIONS};
 use crate::table_file::TableFile;
 

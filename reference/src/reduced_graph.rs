@@ -169,9 +169,8 @@ mod tests {
     use super::*;
     use crate::explore::Graph;
     use crate::longest::SeenBy;
-    use crate::objects::{changing_objects, still};
+    use crate::objects::{changing_objects, still, still_object};
     use crate::replay::replay;
-    use crate::transition::System;
 
     #[test]
     fn the_longest_operations_are_those_of_the_whole_exploration() {
@@ -204,13 +203,27 @@ mod tests {
         }
     }
 
+    /// README.md has these numbers.
+    #[test]
+    fn the_object_that_stands_still_has_few_points() {
+        let object = still_object();
+        for (tasks, whole_points, reduced_points) in [(1, 18, 17), (2, 31_452, 4_473)] {
+            let whole = Graph::explore(object.system(), tasks).unwrap();
+            let reduced = ReducedGraph::explore(Chase::of_still(&object.table), tasks);
+            assert_eq!(
+                (whole.count_points(), reduced.count_points()),
+                (whole_points, reduced_points)
+            );
+        }
+    }
+
     #[test]
     fn a_settled_point_has_the_same_longest_count_in_both_explorations() {
-        let table = still();
-        let chase = Chase::of_still(&table);
+        let object = still_object();
+        let chase = Chase::of_still(&object.table);
         let reduced = ReducedGraph::explore(chase, 2);
         let reduced_counts = reduced.longest_counts().unwrap();
-        let whole = Graph::explore(System::of_machine(&table), 2).unwrap();
+        let whole = Graph::explore(object.system(), 2).unwrap();
         let whole_counts = longest_from_all(&SeenBy {
             graph: &whole,
             task: 0,

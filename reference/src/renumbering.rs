@@ -1,7 +1,7 @@
 //! When two tables are the same object: the states of one that can be reached become those of the other by a renumbering,
 //! start to start. It is looked for here apart from the writer, which gives both the same file, and from its order.
 
-use std::collections::{BTreeMap, BTreeSet};
+use std::collections::BTreeMap;
 
 use crate::table::Table;
 
@@ -55,23 +55,12 @@ fn is_renumbered(one: &Table, other: &Table) -> bool {
     true
 }
 
-/// The states of a table that some list of operations leads to from the start.
-pub fn reachable(table: &Table) -> BTreeSet<usize> {
-    let mut found = BTreeSet::from([table.start]);
-    let mut added = found.clone();
-    while !added.is_empty() {
-        let next = added.iter().flat_map(|&state| table.next_states(state));
-        added = next.filter(|state| !found.contains(state)).collect();
-        found.extend(&added);
-    }
-    found
-}
-
 #[cfg(test)]
 mod tests {
     use super::*;
     use crate::canonical::canonical;
     use crate::canonical_cases::{random_pair, small_pair, SMALL_STATES};
+    use crate::reachable::reachable;
     use crate::table_file::TableFile;
 
     fn plain(states: u16, operations: u16, start: u16, entries: &[(u8, u8)]) -> Vec<u8> {
@@ -220,8 +209,6 @@ mod tests {
             plain(2, 1, 0, &[(0, 3), (0, 1)]),
             plain(3, 1, 2, &[(0, 9), (2, 9), (2, 3)]),
         ];
-        assert_eq!(reachable(&accepted(&one)), BTreeSet::from([0]));
-        assert_eq!(reachable(&accepted(&other)), BTreeSet::from([2]));
         assert!(same(&one, &other));
     }
 }

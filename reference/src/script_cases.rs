@@ -2,6 +2,7 @@
 
 use crate::bench::Bench;
 use crate::random::Random;
+use crate::reach_cases::random_reach_table;
 use crate::reading_cases::reading_scripts;
 use crate::table_cases::{random_case, random_table};
 use crate::table_file::TableFile;
@@ -129,6 +130,7 @@ fn choose_table(random: &mut Random) -> Option<Vec<u8>> {
         0 => None,
         1 | 2 => Some(random_case(random.next()).file),
         3..=9 => Some(TableFile::flag().to_bytes()),
+        10..=17 => Some(random_reach_table(random).to_bytes()),
         _ => Some(random_table(random).to_bytes()),
     }
 }
@@ -287,6 +289,7 @@ impl<'a> Writer<'a> {
 mod tests {
     use super::*;
     use crate::bench::output;
+    use crate::table::Table;
     use crate::trace::served_lines;
     use crate::trace_event::Event;
 
@@ -350,5 +353,31 @@ mod tests {
         assert!(scripts_with(1, 1) >= 100);
         assert!(scripts_with(1, 0) >= 100);
         assert_eq!(scripts_with(0, 1), 0);
+    }
+
+    /// Whether a script begins an operation that is reading though it moves some state: one that can't be reached.
+    fn begins_moving_out_of_reach(script: &Script) -> bool {
+        let file = script.table.as_deref().unwrap_or(&[]);
+        let moves = |operation: usize| {
+            let table = Table::check(file).expect("an accepted table");
+            (0..table.states).any(|state| table.reply(state, operation).moved)
+        };
+        let lines = served_lines(file, &script.input).unwrap_or_default();
+        let mut events = lines.iter().flat_map(|line| &line.events);
+        events.any(|event| match *event {
+            Event::Begun {
+                operation,
+                changing: false,
+                ..
+            } => moves(operation),
+            _ => false,
+        })
+    }
+
+    #[test]
+    fn many_scripts_begin_an_operation_that_moves_only_states_out_of_reach() {
+        let scripts = (0..300).map(random_script);
+        let count = scripts.filter(begins_moving_out_of_reach).count();
+        assert!(count >= 50, "{count}");
     }
 }

@@ -1,5 +1,6 @@
 //! The object table: a file of free text, entries and a trailer that points back.
 
+use crate::reachable::reachable;
 use crate::refusal::Refusal;
 use crate::reply::Reply;
 
@@ -24,6 +25,8 @@ pub struct Table<'a> {
     pub operations: usize,
     pub start: usize,
     entries: &'a [u8],
+    /// A bit for each operation that is changing, if that is noted.
+    changing: Option<u32>,
 }
 
 /// The fields of the last 16 bytes, before the mark.
@@ -47,6 +50,7 @@ impl<'a> Table<'a> {
             operations: trailer.operations,
             start: trailer.start,
             entries: &file[first..last],
+            changing: None,
         })
     }
 
@@ -55,6 +59,14 @@ impl<'a> Table<'a> {
         let table = Table::read(file)?;
         table.test_all_entries()?;
         Ok(table)
+    }
+
+    /// The same table, for who asks often which operations are changing: it is found out once and noted.
+    pub fn with_changing_noted(self) -> Table<'a> {
+        Table {
+            changing: Some(self.changing_operations()),
+            ..self
+        }
     }
 
     pub fn entry(&self, state: usize, operation: usize) -> Entry {
@@ -99,9 +111,20 @@ impl<'a> Table<'a> {
         (0..self.operations).try_for_each(|operation| self.test_operation_entries(operation))
     }
 
-    /// An operation is changing if in some state of the table its next state is another one.
+    /// An operation is changing if in some state that can be reached from the start its next state is another one.
     pub fn is_changing(&self, operation: usize) -> bool {
-        (0..self.states).any(|state| self.leads_away(state, operation))
+        let changing = self.changing.unwrap_or_else(|| self.changing_operations());
+        changing >> operation & 1 == 1
+    }
+
+    /// A bit for each operation that is changing.
+    fn changing_operations(&self) -> u32 {
+        let reached = reachable(self);
+        let changing = |&operation: &usize| reached.iter().any(|&state| self.leads_away(state, operation));
+        let bits = (0..self.operations)
+            .filter(changing)
+            .map(|operation| 1 << operation);
+        bits.sum()
     }
 }
 
@@ -148,6 +171,7 @@ pub fn check_report(file: &[u8]) -> String {
     match Table::check(file) {
         Err(refusal) => format!("x {}\n", refusal.number()),
         Ok(table) => {
+            let table = table.with_changing_noted();
             let flag = |operation| if table.is_changing(operation) { '1' } else { '0' };
             let flags: String = (0..table.operations).map(flag).collect();
             format!(
@@ -188,12 +212,6 @@ mod tests {
         let table = Table::check(TableFile::flag().kept()).unwrap();
         assert!(table.is_changing(2));
         assert!(!table.is_changing(0));
-    }
-
-    #[test]
-    fn an_entry_of_an_unreachable_state_makes_an_operation_changing() {
-        let file = TableFile::plain(2, 1, 0, &[(0, 0), (0, 0)]).to_bytes();
-        assert!(Table::check(&file).unwrap().is_changing(0));
     }
 
     #[test]

@@ -1,6 +1,7 @@
 //! Table files for the comparison: fixed ones at every limit, and generated ones, valid and damaged.
 
 use crate::random::Random;
+use crate::reach_cases::{fixed_reach_cases, random_reach_case};
 use crate::table::{MARK, MOST_FILE_BYTES, MOST_OPERATIONS, MOST_STATES, MOST_TEXT_BYTES, TRAILER_BYTES};
 use crate::table_file::TableFile;
 
@@ -34,6 +35,7 @@ pub fn fixed_cases() -> Vec<Case> {
     add_offsets(&mut cases);
     add_marks(&mut cases);
     add_next_states(&mut cases);
+    cases.extend(fixed_reach_cases());
     cases
 }
 
@@ -153,6 +155,14 @@ fn add_next_states(cases: &mut Vec<Case>) {
                 file.to_bytes(),
             ));
         }
+    }
+}
+
+/// One of the generated cases: every second one is of the kind in which it matters which states can be reached.
+pub fn generated_case(number: u64) -> Case {
+    match number % 2 {
+        0 => random_case(number / 2),
+        _ => random_reach_case(number / 2),
     }
 }
 

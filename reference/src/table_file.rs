@@ -54,6 +54,12 @@ impl TableFile {
         self
     }
 
+    /// An object with a spare state, 2, to which nothing leads. It is the only state that operation 0 moves, so that is
+    /// reading; operation 1 turns the other two over. The response tells state and operation apart.
+    pub fn spare_state() -> TableFile {
+        TableFile::plain(3, 2, 0, &[(0, 10), (1, 11), (1, 20), (0, 21), (0, 30), (2, 31)])
+    }
+
     /// The flag object of docs/FORMATS.md: 0 reads, 1 sets, 2 clears.
     pub fn flag() -> TableFile {
         TableFile::plain(2, 3, 0, &[(0, 0), (1, 0), (0, 0), (1, 1), (1, 1), (0, 1)])

@@ -11,10 +11,11 @@ use crate::refusal::Refusal;
 use crate::rules::Rules;
 use crate::table::Table;
 
-/// An object and the rules that its tasks follow.
+/// An object, how many of its operations tasks begin, from 0 up, and the rules that tasks follow.
 #[derive(Clone, Copy)]
 pub struct System<'a> {
     pub table: &'a Table<'a>,
+    pub begun: usize,
     pub rules: Rules,
 }
 
@@ -22,9 +23,11 @@ pub struct System<'a> {
 pub type Checked = Result<(Configuration, CallAnswer), String>;
 
 impl<'a> System<'a> {
+    /// The machine's rules, with every operation begun.
     pub fn of_machine(table: &'a Table<'a>) -> System<'a> {
         System {
             table,
+            begun: table.operations,
             rules: Rules::MACHINE,
         }
     }

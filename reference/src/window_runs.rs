@@ -91,7 +91,7 @@ pub fn run(seed: u64) -> Run {
 /// One of four small objects, or any good table.
 fn run_file(random: &mut Random) -> Vec<u8> {
     match random.chance(2, 3) {
-        true => random.pick(&explored_files()).1.to_bytes(),
+        true => random.pick(&explored_files()).to_bytes(),
         false => random_table(random).to_bytes(),
     }
 }

@@ -15,7 +15,7 @@ use crate::table_cases::{random_case as any_table, random_table};
 pub fn random_file(random: &mut Random) -> Vec<u8> {
     let mut table = match random.below(3) {
         0 => random_table(random),
-        _ => random.pick(&explored_files()).1.clone(),
+        _ => random.pick(&explored_files()).clone(),
     };
     match random.below(16) {
         0 | 1 => return any_table(random.next()).file,

@@ -2,11 +2,9 @@
 //! that is stated with it; random runs of three, where two tasks can't show it.
 
 use crate::explore::Graph;
-use crate::objects::explored_objects;
+use crate::objects::{explored_objects, Object};
 use crate::random_runs;
 use crate::rules::{Advance, Plan, Rules};
-use crate::table::Table;
-use crate::transition::System;
 
 /// How many schedules of three tasks are tried, and how long they are.
 const SCHEDULES: u64 = 4;
@@ -28,16 +26,17 @@ pub fn planning(plan: Plan) -> Rules {
     }
 }
 
-pub fn explored_object(name: &str) -> Table<'static> {
-    let objects = explored_objects().into_iter();
-    let mut named = objects.filter(|(known, _)| *known == name);
-    named.next().expect("an explored object").1
+pub fn explored_object(name: &str) -> Object {
+    let mut objects = explored_objects().into_iter();
+    objects
+        .find(|object| object.name == name)
+        .expect("an explored object")
 }
 
 /// What is found about the rules with so many tasks, over an explored object.
 pub fn finding_on(object: &str, rules: Rules, tasks: usize) -> String {
-    let table = &explored_object(object);
-    let system = System { table, rules };
+    let object = explored_object(object);
+    let system = object.with_rules(rules);
     let found = match tasks {
         2 => Graph::explore(system, tasks).err(),
         _ => (0..SCHEDULES).find_map(|seed| random_runs::run(system, tasks, CALLS, seed).err()),

@@ -11,7 +11,6 @@ use crate::random_runs;
 use crate::record::Record;
 use crate::rules::Rules;
 use crate::table::Table;
-use crate::transition::System;
 use crate::wrong_builds::{advancing, assert_found, explored_object, finding, finding_on, planning};
 
 const HEAD_MOVED: u64 = 1 << 28;
@@ -182,8 +181,8 @@ fn a_yes_by_the_response() {
 
 /// What is found if answers and what the cells carry are checked, and nothing else.
 fn finding_in_cells(rules: Rules) -> String {
-    let table = &explored_object("flag");
-    let system = System { table, rules };
+    let flag = explored_object("flag");
+    let system = flag.with_rules(rules);
     let make = |before: &Configuration, call| {
         let made = system.make(before, call);
         let mut book = Book::of(before);
@@ -191,7 +190,7 @@ fn finding_in_cells(rules: Rules) -> String {
         book.check_carried(&made.after)?;
         Ok((made.after, made.answer))
     };
-    let found = Graph::explore_by(table, 2, &make).err();
+    let found = Graph::explore_by(system, 2, &make).err();
     found.unwrap_or_else(|| "nothing".to_string())
 }
 
@@ -213,15 +212,15 @@ fn what_the_cells_carry_is_checked_without_the_invariant() {
 fn a_bit_inverted_at_apply_and_back_at_hand_over() {
     let rules = inverted_at_apply_and_back_at_hand_over();
     assert_found(rules, 2, "carried: the head");
-    let table = &explored_object("switch");
-    let system = System { table, rules };
+    let switch = explored_object("switch");
+    let system = switch.with_rules(rules);
     let make = |before: &Configuration, call, book: &mut Book| {
         let made = system.make(before, call);
         made.check_service(book)?;
         Ok((made.after, made.answer))
     };
     for tasks in 1..=MOST_TASKS {
-        let findings = random_runs::run_by(table, tasks, 30_000, 5, make).unwrap();
+        let findings = random_runs::run_by(system, tasks, 30_000, 5, make).unwrap();
         assert!(findings.ended > 200, "{tasks} tasks: {}", findings.ended);
     }
 }

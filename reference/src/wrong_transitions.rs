@@ -210,15 +210,14 @@ fn an_announcement_emptied_twice() {
 /// The potential takes a task whose announcement is empty for one that waits.
 #[test]
 fn an_announcement_emptied_twice_raises_the_potential() {
-    let table = &explored_object("flag");
-    let rules = EMPTYING_TWICE;
-    let system = System { table, rules };
+    let flag = explored_object("flag");
+    let system = flag.with_rules(EMPTYING_TWICE);
     let make = |before: &Configuration, call| {
         let made = system.make(before, call);
         made.check_potentials()?;
         Ok((made.after, made.answer))
     };
-    let found = Graph::explore_by(table, 2, &make).err();
+    let found = Graph::explore_by(system, 2, &make).err();
     assert!(found.is_some_and(|found| found.starts_with("potential")));
 }
 
@@ -250,9 +249,8 @@ fn book_of(point: &Configuration) -> Book {
 /// All schedules of one and two tasks; the longest operation has one own step more than the right one.
 #[test]
 fn an_announcement_emptied_twice_breaks_no_other_clause_than_t1() {
-    let table = &explored_object("flag");
-    let rules = EMPTYING_TWICE;
-    let system = System { table, rules };
+    let flag = explored_object("flag");
+    let system = flag.with_rules(EMPTYING_TWICE);
     let explore_without = |clause, tasks| {
         let make = |before: &Configuration, call| {
             let mut book = book_of(before);
@@ -260,7 +258,7 @@ fn an_announcement_emptied_twice_breaks_no_other_clause_than_t1() {
             book.agrees_with_book(&book_of(&after))?;
             Ok((after, answer))
         };
-        Graph::explore_by(table, tasks, &make)
+        Graph::explore_by(system, tasks, &make)
     };
     for (tasks, longest) in [(1, 18), (2, 125)] {
         let found = explore_without(None, tasks).err();
@@ -273,14 +271,13 @@ fn an_announcement_emptied_twice_breaks_no_other_clause_than_t1() {
 /// Long schedules of up to eight tasks, with a whole book and a check of its order.
 #[test]
 fn an_announcement_emptied_twice_keeps_book_order_rest_image_count_and_ceiling() {
-    let rules = EMPTYING_TWICE;
-    for (_, table) in &explored_objects() {
-        let system = System { table, rules };
+    for object in &explored_objects() {
+        let system = object.with_rules(EMPTYING_TWICE);
         let make = |before: &Configuration, call, book: &mut Book| {
             make_without(Some("T1"), system, before, call, book)
         };
         for tasks in 1..=MOST_TASKS {
-            let findings = random_runs::run_by(table, tasks, 30_000, 5, make).unwrap();
+            let findings = random_runs::run_by(system, tasks, 30_000, 5, make).unwrap();
             assert!(findings.ended > 200, "{tasks} tasks: {}", findings.ended);
         }
     }

@@ -56,7 +56,17 @@ const TURNS: [Turns<'static>; 8] = [
     ("drive_force", &[OPERATIONS, STATES_OF_EACH, STATES]),
     ("game::our_turn", &[OPERATIONS, OPERATIONS, OPERATIONS_OF_EACH]),
     ("drive_start", &[OPERATIONS, STATES_OF_EACH, RECORDS, RECORDS]),
-    ("stepping::call::begin_task", &[STATES, STATES]),
+    (
+        "stepping::call::begin_task",
+        &[
+            OPERATIONS,
+            STATES_OF_EACH,
+            STATES,
+            STATES,
+            OPERATIONS_OF_EACH,
+            STATES,
+        ],
+    ),
     ("desk_owner", &[RINGS, RINGS]),
     ("desk_table", &[RINGS, STATES]),
 ];

@@ -11,8 +11,9 @@ use reference::canonical_cases::{
     damaged_table, fixed_pairs, fixed_tables, random_pair, rooms as rooms_for, written_length, Pair,
     RANDOM_DAMAGED, RANDOM_PAIRS,
 };
+use reference::reachable::reachable;
 use reference::refusal;
-use reference::renumbering::{reachable, same};
+use reference::renumbering::same;
 use reference::table::Table;
 use reference::table_cases::{self, Case};
 use rooms::Compared;

@@ -164,8 +164,8 @@ fn runs_with_each_bit(by: By, table: &TableFile) -> BTreeSet<(u32, bool)> {
     ends
 }
 
-/// Only its phase says that a record reads, so after a change ReadOnly can answer that the state moved. With one state
-/// nothing can move, and every operation reads.
+/// Only its phase says that a record reads, so after a change ReadOnly can answer that the state moved; so it can where the
+/// head's state becomes one that can't be reached. With one state nothing can move, and every operation reads.
 #[test]
 fn steps_with_each_bit_changed_answer_as_the_second_program() {
     let each = [READ_ONLY, RETRACT].into_iter();
@@ -173,6 +173,7 @@ fn steps_with_each_bit_changed_answer_as_the_second_program() {
     let each = BTreeSet::from_iter(each);
     for by in By::EACH {
         assert_eq!(runs_with_each_bit(by, &TableFile::flag()), each);
+        assert_eq!(runs_with_each_bit(by, &TableFile::spare_state()), each);
         assert_eq!(
             runs_with_each_bit(by, &smallest()),
             BTreeSet::from([(READ_ONLY, false)])

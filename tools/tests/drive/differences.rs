@@ -3,7 +3,8 @@
 
 use crate::program::drive_among;
 use reference::canonical_cases::{random_pair, small_pair, Pair};
-use reference::renumbering::{reachable, same};
+use reference::reachable::reachable;
+use reference::renumbering::same;
 use reference::table::Table;
 use std::collections::{HashMap, HashSet};
 use std::str::FromStr;

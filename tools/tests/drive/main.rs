@@ -15,6 +15,7 @@ mod runs;
 mod same;
 mod second_consoles;
 mod second_run;
+mod spare_states;
 mod strategies;
 mod tables;
 mod timeline;

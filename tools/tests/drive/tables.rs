@@ -4,17 +4,17 @@ use crate::program::drive;
 use reference::random::Random;
 use reference::refusal::Refusal;
 use reference::table::Table;
-use reference::table_cases::{fixed_cases, random_case, random_table};
+use reference::table_cases::{fixed_cases, generated_case, random_table};
 use reference::table_file::TableFile;
 use reference::trace_event::refused;
 
-const RANDOM_CASES: u64 = 200;
+const GENERATED_CASES: u64 = 400;
 const RANDOM_TEXTS: u64 = 200;
 
 fn files() -> Vec<Vec<u8>> {
     let cases = fixed_cases()
         .into_iter()
-        .chain((0..RANDOM_CASES).map(random_case));
+        .chain((0..GENERATED_CASES).map(generated_case));
     cases.map(|case| case.file).collect()
 }
 
@@ -242,7 +242,8 @@ fn a_text_that_is_no_object_is_refused() {
     );
 }
 
-/// Two states and five operations with names; every operation leads to the state `b-2` but the last.
+/// Two states and five operations with names: the last keeps every state, the one before it turns them over, and the others
+/// lead to the state `b-2`.
 const NAMED: &str = "| states: a_1 b-2
 | states: other names
 | operations: r s1 t u v
@@ -257,7 +258,7 @@ a_1 v -> a_1 4
 b-2 r -> b-2 5
 b-2 s1 -> b-2 6
 b-2 t -> b-2 7
-b-2 u -> b-2 8
+b-2 u -> a_1 8
 b-2 v -> b-2 9
 ";
 
