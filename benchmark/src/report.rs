@@ -33,6 +33,19 @@ const TABLES: [Table; 2] = [
     },
 ];
 
+/// States and operations of the tables on which begins are measured, by the number of their entries.
+const BEGUN_TABLES: [(u16, u16); 9] = [
+    (1, 2),
+    (4, 2),
+    (16, 2),
+    (4, 32),
+    (64, 2),
+    (256, 2),
+    (64, 8),
+    (64, 32),
+    (256, 32),
+];
+
 pub fn print() -> Result<(), String> {
     print_heads(&[
         "table",
@@ -60,6 +73,8 @@ pub fn print() -> Result<(), String> {
     for_all_rows(print_operations)?;
     print_heads(&[
         "states",
+        "operations",
+        "entries",
         "operation",
         "instructions a begin: library",
         "second",
@@ -136,27 +151,27 @@ fn print_operations(table: &Table, changing: bool, tasks: usize) -> Result<(), S
 }
 
 fn print_begins() -> Result<(), String> {
-    for exponent in 0..=8 {
-        let states = 1 << exponent;
-        print_begin(states, false)?;
+    for (states, operations) in BEGUN_TABLES {
+        print_begin(states, operations, false)?;
         if states > 1 {
-            print_begin(states, true)?;
+            print_begin(states, operations, true)?;
         }
     }
     Ok(())
 }
 
-fn print_begin(states: u16, changing: bool) -> Result<(), String> {
+fn print_begin(states: u16, operations: u16, changing: bool) -> Result<(), String> {
     let table = Table {
         name: "",
         states,
-        operations: 2,
+        operations,
         text: 0,
     };
     let library = of_one(&load(Who::Library, What::Begins, &table, changing, 1))?;
     let second = of_one(&load(Who::Second, What::Begins, &table, changing, 1))?;
     println!(
-        "| {states} | {} | {library:.0} | {second:.0} | {:.2} |",
+        "| {states} | {operations} | {} | {} | {library:.0} | {second:.0} | {:.2} |",
+        states * operations,
         kind(changing),
         library / second
     );
