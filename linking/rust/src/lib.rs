@@ -151,7 +151,8 @@ pub fn start(file: &[u8], cells: &mut [u64], row: &mut [Task]) -> Result<(), Ref
 /// Begins an operation for a task. Tests 1, 2, 3, 5, 7, 8, then 4 on all entries, also those of other operations and of
 /// states that can't be reached, then 11, 9.
 ///
-/// Writes the task's record, and leaves the row's other records. Its cost grows with states times operations.
+/// Writes the task's record, and leaves the row's other records. Its cost grows with states times operations, and it takes
+/// over 1,300 bytes of stack: two arrays for the states that can be reached.
 #[inline]
 pub fn begin(file: &[u8], row: &mut [Task], task: usize, operation: usize) -> Result<(), Refusal> {
     answer::accepted(foreign::begin(file, row, task, operation)).map(|_| ())
