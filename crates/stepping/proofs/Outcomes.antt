@@ -13,6 +13,7 @@ use Rattle.cells.specs.Image.{image}
 use Rattle.cells.specs.Layout.{announcementOf}
 use Rattle.cells.specs.declared.announcement.Announcement.the-variants as content
 use Rattle.table.specs.Entries.{moves}
+use Rattle.reach.specs.Walk.{Reachable}
 use Rattle.reach.specs.Changing.{changing}
 use Rattle.reach.proofs.Changing.{accepted-changing, keeps-unmoved}
 use Rattle.machine.specs.Outcome.{Outcome}
@@ -32,7 +33,7 @@ use Rattle.transition.proofs.EncodedCells.{head-same-value, content-same-value,
 use Rattle.stepping.specs.Runs.{Store}
 use Rattle.stepping.specs.Encoding.{encodeCells}
 use Rattle.stepping.specs.Opening.{Opening, objectIn, shown}
-use Rattle.stepping.specs.Statement.{Demands, DemandsWithin, EntryUsed, Answered, CarriedFor, in-head, in-announcement, CarriedAlong}
+use Rattle.stepping.specs.Statement.{Demands, DemandsWithin, EntryUsed, Answered, CarriedFor, in-head, in-announcement, CarriedAlong, Reaches}
 use Rattle.stepping.proofs.Accesses.{cells-length, cell-at}
 use Rattle.stepping.proofs.Demands.{machineRun, opens, in-range, encodedShows, shown-same, encoded-demands}
 
@@ -79,18 +80,22 @@ module _ {file : List ℕ} {n q : ℕ} {s : Store} (o : Opening file n q s) wher
       let (x, own, open-still, a) = machine.carried (objectIn o) n q (opens o) xs j v (held xs j r moved c) in
       (x, own, open-still, used (bookOf (objectIn o) n q xs .order) x v a)
 
-  -- One book serves the demands, with any bound that the proved one doesn't pass, and agrees with what the cells carry.
-  pub met : (c : ℕ) → bound n ≤ c → (d : DemandsWithin c o) × CarriedAlong file (o .shape) q (shown o) (d .book)
+  -- The book's state is the head's, which can be reached.
+  book-reachable : (xs : List Call) → Reachable file (o .shape) (bookOf (objectIn o) n q xs .state)
+  book-reachable xs =
+      let k = sound (objectIn o) n q (opens o) xs in
+      let good = state-good (objectIn o) n (machineRun o xs .memory .head .value) (k .formed .memory .head .value) in
+      good-reached (o .table) (bookOf (objectIn o) n q xs .state) .0 (rw (k .related .state) good)
+
+  -- One book serves the demands, with any bound that the proved one doesn't pass, agrees with what the cells carry, and stays in
+  -- states that can be reached.
+  pub met : (c : ℕ) → bound n ≤ c → (d : DemandsWithin c o) × CarriedAlong file (o .shape) q (shown o) (d .book) × Reaches o (d .book)
   unfolding encoded-demands demand
   met c h =
-      subst (λ (run : Shown (List ℕ)). (d : Demand (objectIn o) n q c (image n) run) × CarriedAlong file (o .shape) q run (d .book)) (sym (shown-same o))
-      (encoded-demands o c (demand (objectIn o) n q (opens o) c h), encoded-carried)
+      subst (λ (run : Shown (List ℕ)). (d : Demand (objectIn o) n q c (image n) run) × CarriedAlong file (o .shape) q run (d .book) × Reaches o (d .book)) (sym (shown-same o))
+      (encoded-demands o c (demand (objectIn o) n q (opens o) c h), encoded-carried, book-reachable)
 
   -- A reading operation finds a state that it doesn't move.
   pub unmoved : (xs : List Call) (x : ℕ) → changing file (o .shape) x ≡ false → moves file (o .shape) (bookOf (objectIn o) n q xs .state) x ≡ false
   unmoved xs x reads =
-      let k = sound (objectIn o) n q (opens o) xs in
-      let m = machineRun o xs .memory in
-      let good = state-good (objectIn o) n (m .head .value) (k .formed .memory .head .value) in
-      let reached = good-reached (o .table) (bookOf (objectIn o) n q xs .state) .0 (rw (k .related .state) good) in
-      keeps-unmoved file (o .shape) (bookOf (objectIn o) n q xs .state) x (accepted-changing file (o .shape) (o .table .accepted) x .reads .0 reads _ reached)
+      keeps-unmoved file (o .shape) (bookOf (objectIn o) n q xs .state) x (accepted-changing file (o .shape) (o .table .accepted) x .reads .0 reads _ (book-reachable xs))
