@@ -18,8 +18,8 @@
  * them out of the row after start, and makes every call for a task with the task's record and the row's number of
  * records. drive_window takes the record from the row. A console may write its bytes of its window between calls.
  * Nothing is asked of task, operation, state, moves, chainage, any length or the bytes of a window or of targets: a call
- * that can't be served is refused. A call keeps no pointer and allocates nothing; start and drive_canonical call memset,
- * and no call anything else.
+ * that can't be served is refused. A call keeps no pointer and allocates nothing; start, begin (also of one record, and by
+ * a window) and drive_canonical call memset, and no call anything else.
  *
  * Every call answers with one word, which the drive_answer functions below read. Byte 0, the lowest, is 0 if the call
  * is accepted, else the number of the first cause that holds; then everything lent is left as it was, with one

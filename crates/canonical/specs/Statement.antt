@@ -12,7 +12,7 @@ use Rattle.table.specs.declared.Checked.the-variants.{Accepted}
 use Rattle.table.specs.File.{Bytes, shapeOf}
 use Rattle.table.specs.Layout.{layoutOf}
 use Rattle.table.specs.Check.{checkOf, checkSaid}
-use Rattle.table.specs.Statement.{AllInRange}
+use Rattle.table.specs.Statement.{OutOfRange}
 use Rattle.reach.specs.Statement.{FirstMeeting}
 use Rattle.canonical.specs.Same.{operationsOf, nextIn, responseIn, ReachableIn, Same}
 use Rattle.canonical.specs.Canonical.{canonicalOf, canonicalWritten}
@@ -60,8 +60,8 @@ pub record CanonicalAnswered (file room : List ℕ) : Type 0 where
   -- 1 to 4 exactly if check answers it, and then the room is as it was.
   pub refused : (number : ℕ) → 1 ≤ number → number ≤ 4 → (writtenSaid (canonicalWritten file room .answer) ≡ refusedBy number) ↔ (checkSaid (checkOf file) ≡ refusedBy number)
   pub unchanged : (number : ℕ) → 1 ≤ number → checkSaid (checkOf file) ≡ refusedBy number → canonicalWritten file room .room ≡ room
-  -- 4 exactly if 1 to 3 don't hold and not every entry is in range, whether its state can be reached or not.
-  pub entries : (writtenSaid (canonicalWritten file room .answer) ≡ refusedBy 4) ↔ ((shape : Shape) × (layoutOf file ≡ Accepted shape) × (AllInRange file shape → ⊥))
+  -- 4 exactly if 1 to 3 don't hold and some entry is out of range, whether its state can be reached or not.
+  pub entries : (writtenSaid (canonicalWritten file room .answer) ≡ refusedBy 4) ↔ ((shape : Shape) × (layoutOf file ≡ Accepted shape) × OutOfRange file shape)
   -- An accepted table: its file is written into the room, or refused with 16.
   pub writes : (shape : Shape) → checkOf file ≡ Accepted shape → Writes (canonicalOf file) room (canonicalWritten file room)
   -- No other number is answered.

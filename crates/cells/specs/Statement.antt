@@ -15,6 +15,10 @@ use Rattle.cells.specs.declared.head.Head.the-variants.{Held}
 -- The place values are written as numbers: 256 for bit 8, 65536 for bit 16, 16777216 for bit 24, 268435456 for bit 28, and 536870912
 -- for bit 29.
 
+-- The number in bits 8 to 15.
+abbrev pub stateInWord : ℕ → ℕ
+stateInWord w = w / 256 % 256
+
 -- The number in bits 24 to 27.
 abbrev pub holderIn : ℕ → ℕ
 holderIn w = w / 16777216 % 16
@@ -25,7 +29,7 @@ pub record HeadPoints (s n w : ℕ) : Type 0 where
   pub named : w < 536870912
   -- Marks of tasks from n up are 0.
   pub marked : w % 256 < 2 ^ n
-  pub state : w / 256 % 256 < s
+  pub state : stateInWord w < s
   -- The holder is 0 for none, else the number of one of the n tasks plus 1.
   pub holder : holderIn w ≤ n
   pub most : holderIn w ≤ 8

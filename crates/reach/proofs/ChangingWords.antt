@@ -1,6 +1,6 @@
 -- Whether an operation is changing, by the arrays that keep the order of first meeting.
 use Prim.Native.Nat.{ℕ, _<_}
-use mathlib.Core.Path.{_≡_, refl, sym, ap, _∙_}
+use mathlib.Core.Path.{_≡_, refl, ap, _∙_}
 use mathlib.Core.Bool.{Bool, true, false, _&&_, and-eq-true-iff, and-false}
 use mathlib.Core.List.{List}
 use native.Mathlib.Omega.{arith}

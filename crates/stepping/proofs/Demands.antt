@@ -73,7 +73,7 @@ module _ {file : List ℕ} {n q : ℕ} {s : Store} (o : Opening file n q s) wher
   machineRun xs = run (objectIn o) n xs (start q)
 
   pub opens : Opens (objectIn o) q
-  opens = record { lawful = object-lawful (o .table); good = good-reached (o .table) q .1 (o .reachable) }
+  opens = record { lawful = object-lawful (o .table); good = good-reached (o .table) q .1 (o .reached) }
 
   pub in-range : (xs : List Call) → InRange (objectIn o) n (run (objectIn o) n xs (start q))
   in-range = reached (objectIn o) n q (o .some) opens

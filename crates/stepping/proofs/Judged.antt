@@ -36,7 +36,7 @@ use Rattle.stepping.specs.declared.answer.StepAnswer.the-variants as ste
 use Rattle.stepping.specs.Step.{touched, cellInForm, answerOf, TaskOutcome, ledTo, served}
 use Rattle.stepping.specs.Call.{refuseStep, touch, stepFrom, stepTask, stepSaid, begunTask, refuseBegin, beginFrom, beginTask, beginSaid}
 use Rattle.stepping.specs.Access.{accessOf}
-use Rattle.stepping.specs.Statement.{FitsTable, StepTested, BeginAsked, RecordJudged, BeginRecordJudged, TouchedFits, CellJudged, StepRefused, BeginRefused, HolderAbove, SavedHolderAbove, BeginHolderAbove}
+use Rattle.stepping.specs.Statement.{FitsTable, StepTested, BeginAsked, BeginTested, RecordJudged, BeginRecordJudged, TouchedFits, CellJudged, StepRefused, BeginRefused, HolderAbove, SavedHolderAbove, BeginHolderAbove}
 use Rattle.stepping.proofs.Admission.{ceiling, admits}
 use Rattle.stepping.proofs.Forms.{cell-fits}
 use Rattle.stepping.proofs.Refused.{refused-begin, refused-step}
@@ -105,7 +105,7 @@ module _ (file cells : List ℕ) (n i : ℕ) (t : Task) (s : StepTested file cel
     unfolding accessOf
     step-access = rw (admits file n shape (s .accepted) (s .some) (s .few), read)
 
-    step-touches : stepTask file cells n i t ≡ touch file shape cells n i t f planned
+    pub step-touches : stepTask file cells n i t ≡ touch file shape cells n i t f planned
     step-touches = rw (step-tested, read, ne-eqb (t .phase) 0 pending)
 
     fits-planned : TouchedFits file cells n i t ↔ (cellInForm shape n (touched planned) word ≡ true)
@@ -137,12 +137,14 @@ pub asked-tests : (file : List ℕ) (n i o : ℕ) (t : Task) → BeginAsked file
 unfolding beginTask
 asked-tests file n i o t a = rw (admits file n (shapeOf file) (a .accepted) (a .some) (a .few), lt-ltb i n (a .below), lt-ltb o (shapeOf file .operations) (a .known))
 
+pub begin-tested : (file : List ℕ) (n i o : ℕ) (t : Task) → BeginTested file n i o → beginTask file n i o t ≡ beginFrom file (shapeOf file) o t (readRecord (shapeOf file) n (ceiling n) t)
+begin-tested file n i o t s = asked-tests file n i o t (s .asked) ∙ rw (all-tested file (shapeOf file) (s .ranged))
+
 pub begin-record-judged : (file : List ℕ) (n i o : ℕ) (t : Task) → BeginRecordJudged file n i o t
-unfolding beginTask
 begin-record-judged file n i o t s = (λ e (f, read). by (eqb (t .phase) 0) (rw (tested, read) at e), λ bad. rw (tested, record-refused (shapeOf file) n (ceiling n) t .0 bad))
   where
     tested : beginTask file n i o t ≡ beginFrom file (shapeOf file) o t (readRecord (shapeOf file) n (ceiling n) t)
-    tested = asked-tests file n i o t (s .asked) ∙ rw (all-tested file (shapeOf file) (s .ranged))
+    tested = begin-tested file n i o t s
 
     by : (b : Bool) → beginSaid (cond b (record { task = begunTask file (shapeOf file) o t; answer = answer.Begun }) (refuseBegin t cause.Pending) .answer) ≡ Refused 11 → ⊥
     by true e = never cc

@@ -21,5 +21,5 @@ pub mod Between
 pub mod Rows
 pub mod Entries
 pub mod Theorem
-pub mod Rest
+pub mod Reading
 pub mod Cases

@@ -5,7 +5,6 @@ use mathlib.Core.List.{List}
 use Prim.Native.Nat.{ℕ, _+_, _<_, _≤_}
 use native.Mathlib.Decide.{decLt}
 use native.Mathlib.Omega.{arith}
-use borrow.Author.Tests.{ltb-true}
 use lib.ListN.{length, getD, List·getD-eq-default}
 use Rattle.laws.proofs.Clash.{never}
 use Rattle.cells.specs.Field.{unpack}
@@ -17,6 +16,7 @@ use Rattle.reach.specs.Walk.{Reachable}
 use Rattle.reach.specs.Changing.{changing}
 use Rattle.reach.proofs.Changing.{accepted-changing, keeps-unmoved}
 use Rattle.machine.specs.Outcome.{Outcome}
+use Rattle.machine.specs.Memory.{stateOf}
 use Rattle.machine.specs.Calls.{Call}
 use Rattle.machine.specs.Book.{Operation}
 use Rattle.machine.specs.Demand.{Shown, Demand}
@@ -33,7 +33,7 @@ use Rattle.transition.proofs.EncodedCells.{head-same-value, content-same-value,
 use Rattle.stepping.specs.Runs.{Store}
 use Rattle.stepping.specs.Encoding.{encodeCells}
 use Rattle.stepping.specs.Opening.{Opening, objectIn, shown}
-use Rattle.stepping.specs.Statement.{Demands, DemandsWithin, EntryUsed, Answered, CarriedFor, in-head, in-announcement, CarriedAlong, Reaches}
+use Rattle.stepping.specs.Statement.{Demands, DemandsWithin, EntryUsed, Answered, CarriedFor, in-head, in-announcement, CarriedAlong}
 use Rattle.stepping.proofs.Accesses.{cells-length, cell-at}
 use Rattle.stepping.proofs.Demands.{machineRun, opens, in-range, encodedShows, shown-same, encoded-demands}
 
@@ -80,22 +80,20 @@ module _ {file : List ℕ} {n q : ℕ} {s : Store} (o : Opening file n q s) wher
       let (x, own, open-still, a) = machine.carried (objectIn o) n q (opens o) xs j v (held xs j r moved c) in
       (x, own, open-still, used (bookOf (objectIn o) n q xs .order) x v a)
 
-  -- The book's state is the head's, which can be reached.
-  book-reachable : (xs : List Call) → Reachable file (o .shape) (bookOf (objectIn o) n q xs .state)
-  book-reachable xs =
-      let k = sound (objectIn o) n q (opens o) xs in
-      let good = state-good (objectIn o) n (machineRun o xs .memory .head .value) (k .formed .memory .head .value) in
-      good-reached (o .table) (bookOf (objectIn o) n q xs .state) .0 (rw (k .related .state) good)
+  -- The head's state can be reached.
+  pub head-reachable : (xs : List Call) → Reachable file (o .shape) (stateOf (machineRun o xs .memory .head .value))
+  head-reachable xs =
+      good-reached (o .table) (stateOf (machineRun o xs .memory .head .value)) .0 (state-good (objectIn o) n (machineRun o xs .memory .head .value) (in-range o xs .formed .memory .head .value))
 
-  -- One book serves the demands, with any bound that the proved one doesn't pass, agrees with what the cells carry, and stays in
-  -- states that can be reached.
-  pub met : (c : ℕ) → bound n ≤ c → (d : DemandsWithin c o) × CarriedAlong file (o .shape) q (shown o) (d .book) × Reaches o (d .book)
+  -- One book serves the demands, with any bound that the proved one doesn't pass, and agrees with what the cells carry.
+  pub met : (c : ℕ) → bound n ≤ c → (d : DemandsWithin c o) × CarriedAlong file (o .shape) q (shown o) (d .book)
   unfolding encoded-demands demand
   met c h =
-      subst (λ (run : Shown (List ℕ)). (d : Demand (objectIn o) n q c (image n) run) × CarriedAlong file (o .shape) q run (d .book) × Reaches o (d .book)) (sym (shown-same o))
-      (encoded-demands o c (demand (objectIn o) n q (opens o) c h), encoded-carried, book-reachable)
+      subst (λ (run : Shown (List ℕ)). (d : Demand (objectIn o) n q c (image n) run) × CarriedAlong file (o .shape) q run (d .book)) (sym (shown-same o))
+      (encoded-demands o c (demand (objectIn o) n q (opens o) c h), encoded-carried)
 
   -- A reading operation finds a state that it doesn't move.
   pub unmoved : (xs : List Call) (x : ℕ) → changing file (o .shape) x ≡ false → moves file (o .shape) (bookOf (objectIn o) n q xs .state) x ≡ false
   unmoved xs x reads =
-      keeps-unmoved file (o .shape) (bookOf (objectIn o) n q xs .state) x (accepted-changing file (o .shape) (o .table .accepted) x .reads .0 reads _ (book-reachable xs))
+      let state = sound (objectIn o) n q (opens o) xs .related .state in
+      keeps-unmoved file (o .shape) (bookOf (objectIn o) n q xs .state) x (accepted-changing file (o .shape) (o .table .accepted) x .reads .0 reads _ (rw state (head-reachable xs)))

@@ -68,11 +68,11 @@ start-row-judged file cells row =
 layout-before : (file : List ℕ) (c : Refusal) → layoutOf file ≡ table.Refused c → numberOf c ≢ 5
 layout-before file c e five = omega (arith, five, layout-numbers file c e)
 
-pub same-number : (k number : ℕ) → Refused k ≡ Refused number → k ≡ number
+same-number : (k number : ℕ) → Refused k ≡ Refused number → k ≡ number
 same-number k number e = cc
 
 -- An answer says another number, or none.
-abbrev pub Other : ℕ → Answer → Type 0
+abbrev Other : ℕ → Answer → Type 0
 Other number a = a ≢ Refused number
 
 pub other : {number : ℕ} (k : ℕ) → k ≢ number → Other number (Refused k)

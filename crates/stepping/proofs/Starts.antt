@@ -93,7 +93,7 @@ module _ (file cells : List ℕ) (row : List Task) where
         table = record { bytes = bytes; accepted = f .accepted };
         some = f .some;
         few = f .few;
-        reachable = rw (← fits .shape-is) (start-reached file (f .shape));
+        reached = rw (← fits .shape-is) (start-reached file (f .shape));
         cells = rw e refl;
         row = rw e refl;
       }

@@ -22,7 +22,7 @@ use Rattle.stepping.specs.Call.{StartOutcome, startOf, admitStartOf, beg
 use Rattle.stepping.specs.Runs.{Store}
 use Rattle.stepping.specs.Opening.{Opening, objectIn}
 use Rattle.stepping.specs.Lent.{Places}
-use Rattle.stepping.specs.Statement.{MakesAccess, FollowsResult, Local, OneCell, BeginByRecord, StepByRecord, StartUnchanged, BeginUnchanged, StepUnchanged, BeginRecordUnchanged, StepRecordUnchanged, StartTableRefused, BeginTableRefused, StepTableRefused, StartRowJudged, BeginRowJudged, StepRowJudged, BeginEntriesJudged, RecordJudged, BeginRecordJudged, CellJudged, HolderAbove, SavedHolderAbove, BeginHolderAbove, HeadsInForm, KeepsForm, LeavesInForm, Startable, StartOpens, Demands, SharperDemands, Independent, Answered, Carried, Reaches, InFormThroughout, Refusals, Endings, Emptied, Between, OpensNext}
+use Rattle.stepping.specs.Statement.{MakesAccess, FollowsResult, Local, OneCell, BeginByRecord, StepByRecord, StartUnchanged, BeginUnchanged, StepUnchanged, BeginRecordUnchanged, StepRecordUnchanged, StartTableRefused, BeginTableRefused, StepTableRefused, StartRowJudged, BeginRowJudged, StepRowJudged, BeginEntriesJudged, RecordJudged, BeginRecordJudged, CellJudged, HolderAbove, SavedHolderAbove, BeginHolderAbove, HeadsInForm, KeepsForm, LeavesInForm, Startable, StartOpens, Demands, SharperDemands, Independent, Answered, Carried, InFormThroughout, Refusals, Endings, Emptied, Between, OpensNext}
 use Rattle.stepping.proofs.Between.{between, opens-next}
 use Rattle.stepping.proofs.Demands.{opens, points-in-form, history-opened, answer-opened, access-opened, refused-opened, emptied}
 use Rattle.stepping.proofs.Outcomes.{answered, met, unmoved}
@@ -161,10 +161,6 @@ module _ {file : List ℕ} {n q : ℕ} {s : Store} (o : Opening file n q s) wher
   pub carried-known : Carried o demands-met
   unfolding demands-met
   carried-known = met o (1000 * (n * n * n)) (bound-ceiling n (o .some)) .1
-
-  pub reaches-known : Reaches o (demands-met .book)
-  unfolding demands-met
-  reaches-known = met o (1000 * (n * n * n)) (bound-ceiling n (o .some)) .2
 
   pub in-form-throughout : InFormThroughout o
   in-form-throughout = points-in-form o

@@ -5,6 +5,6 @@ pub mod Runs
 pub mod Opening
 pub mod Lent
 pub mod Statement
-pub mod Rest
+pub mod Reading
 pub mod Cases
 pub mod Encoding

@@ -19,7 +19,7 @@ pub record Opening (file : List ℕ) (n q : ℕ) (s : Store) : Type 0 where
   pub table : ObjectTable file shape
   pub some : 1 ≤ n
   pub few : n ≤ 8
-  pub reachable : Reachable file shape q
+  pub reached : Reachable file shape q
   pub cells : s .cells ≡ image n q
   pub row : s .row ≡ idleRow n
 

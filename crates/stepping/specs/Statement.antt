@@ -22,7 +22,6 @@ use Rattle.table.specs.Layout.{layoutOf}
 use Rattle.table.specs.Check.{checkOf}
 use Rattle.table.specs.Entries.{entryOf, moves}
 use Rattle.table.specs.Statement.{AllInRange, OutOfRange}
-use Rattle.reach.specs.Walk.{Reachable}
 use Rattle.reach.specs.Changing.{changing}
 use Rattle.machine.specs.Outcome.{Outcome}
 use Rattle.machine.specs.Calls.{Call, Step, Ended, Refused, Event}
@@ -309,10 +308,6 @@ CarriedAlong file shape q run book =
 
 abbrev pub Carried : {file : List ℕ} {n q : ℕ} {s : Store} (o : Opening file n q s) → Demands o → Type 0
 Carried {file} {q = q} o d = CarriedAlong file (o .shape) q (shown o) (d .book)
-
--- The book of a run is at every point in a state that can be reached from the table's start state: nobody is in another one.
-abbrev pub Reaches : {file : List ℕ} {n q : ℕ} {s : Store} → Opening file n q s → (List Call → Book) → Type 0
-Reaches {file} o book = (xs : List Call) → Reachable file (o .shape) (book xs .state)
 
 -- ---- Every point of a run
 

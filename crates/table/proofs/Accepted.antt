@@ -34,6 +34,10 @@ module _ (file : List ℕ) (shape : Shape) where
   unfolding entriesInRange
   entries-operation e operation o = all-at _ _ e operation o
 
+  -- So every next state is one of the table's states.
+  pub tested-all : entriesInRange file shape ≡ true → AllInRange file shape
+  tested-all e state operation q o = next-below state operation (operation-entry operation (entries-operation e operation o) state q)
+
   parts : (layout : Checked) → withEntries file layout ≡ Accepted shape → (layout ≡ Accepted shape) × (entriesInRange file shape ≡ true)
   parts (Accepted found) e =
       let t = taken (entriesInRange file found) _ _ _ e (refused NextState shape) in
@@ -60,7 +64,7 @@ module _ (file : List ℕ) (shape : Shape) where
 
     -- Every next state is one of the table's states.
     pub accepted-next : AllInRange file shape
-    accepted-next state operation q o = next-below state operation (accepted-entry state operation q o)
+    accepted-next = tested-all (accepted-parts accepted .1)
 
   -- The test says that every entry is in range if it is.
   pub all-tested : AllInRange file shape → entriesInRange file shape ≡ true

@@ -17,9 +17,9 @@ use Rattle.table.specs.File.{shapeOf}
 use Rattle.table.specs.Entries.{entriesInRange}
 use Rattle.table.specs.Layout.{fileFits, dimensionsFit, lengthFits, layoutOf}
 use Rattle.table.specs.Check.{withEntries, checkOf, checkSaid}
-use Rattle.table.specs.Statement.{AllInRange, CheckAnswered}
+use Rattle.table.specs.Statement.{AllInRange, OutOfRange, CheckAnswered}
 use Rattle.table.proofs.Fitting.{refused}
-use Rattle.table.proofs.Accepted.{accepted-parts, accepted-next, all-tested}
+use Rattle.table.proofs.Accepted.{accepted-parts, accepted-next, all-tested, entries-out}
 
 module _ (file : List ℕ) where
   check-is : {layout : Checked} → layoutOf file ≡ layout → checkOf file ≡ withEntries file layout
@@ -62,7 +62,7 @@ module _ (file : List ℕ) where
         let not-all : AllInRange file shape → ⊥ = λ all. clash (all-tested file shape all) bad in
         record {
           layout = λ number some few. (λ f. absurd (numbers-apart (sym (ap checkSaid answer) ∙ f) (λ z. omega (arith, z, few))), λ f. absurd (numbers-apart (sym (ap checkSaid e) ∙ f) (λ z. omega (arith, z, some))));
-          entries = (λ _. (shape, e, not-all), λ _. ap checkSaid answer);
+          entries = (λ _. (shape, e, entries-out file shape .0 bad), λ _. ap checkSaid answer);
           accepts = λ other. (λ f. absurd (refused NextState other (sym answer ∙ f)), λ (f, all). absurd (not-all (subst (AllInRange file) (same-shape other f) all)));
           only = λ number _ f. omega (arith, ap (λ (s : Said). s .number) (sym (ap checkSaid answer) ∙ f));
         }
@@ -73,7 +73,7 @@ module _ (file : List ℕ) where
         let said : (number : ℕ) → 1 ≤ number → checkSaid (checkOf file) ≡ refusedBy number → ⊥ = λ number some f. numbers-apart (sym (ap checkSaid answer) ∙ f) (λ z. omega (arith, z, some)) in
         record {
           layout = λ number some few. (λ f. absurd (said number some f), λ f. absurd (numbers-apart (sym (ap checkSaid e) ∙ f) (λ z. omega (arith, z, some))));
-          entries = (λ f. absurd (said 4 (omega arith) f), λ (other, f, not-all). absurd (not-all (subst (AllInRange file) (sym (same-shape other f)) (accepted-next file shape answer))));
+          entries = (λ f. absurd (said 4 (omega arith) f), λ (other, f, out). clash good (entries-out file shape .1 (subst (OutOfRange file) (same-shape other f) out)));
           accepts = λ other. (λ f. (accepted-parts file other f .0, accepted-next file other f), λ (f, _). answer ∙ ap Accepted (sym (same-shape other f)));
           only = λ number some f. absurd (said number some f);
         }

@@ -25,8 +25,8 @@ pub record OutOfRange (file : List ℕ) (shape : Shape) : Type 0 where
 pub record CheckAnswered (file : List ℕ) : Type 0 where
   -- 1 to 3 exactly if length, mark and trailer alone are answered so.
   pub layout : (number : ℕ) → 1 ≤ number → number ≤ 3 → (checkSaid (checkOf file) ≡ refusedBy number) ↔ (checkSaid (layoutOf file) ≡ refusedBy number)
-  -- 4 exactly if these are accepted and not every entry is in range.
-  pub entries : (checkSaid (checkOf file) ≡ refusedBy 4) ↔ ((shape : Shape) × (layoutOf file ≡ Accepted shape) × (AllInRange file shape → ⊥))
+  -- 4 exactly if these are accepted and some entry is out of range.
+  pub entries : (checkSaid (checkOf file) ≡ refusedBy 4) ↔ ((shape : Shape) × (layoutOf file ≡ Accepted shape) × OutOfRange file shape)
   -- A shape exactly if these are accepted with it and every entry is in range.
   pub accepts : (shape : Shape) → (checkOf file ≡ Accepted shape) ↔ ((layoutOf file ≡ Accepted shape) × AllInRange file shape)
   -- No other number is answered.

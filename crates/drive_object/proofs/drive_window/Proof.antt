@@ -1,4 +1,4 @@
--- `drive_object::drive_window` meets its contract, by a walk of its code: all is passed on to `window::serve_window`, and the answer becomes a word.
+-- `drive_object::drive_window` meets its contract, by a walk of its code: all is passed on to `window_calls::serve_window`, and the answer becomes a word.
 use Rattle.walks.proofs.Kit.{_≡_, refl, ap, _∙_, ℕ, _<_, _^_, [], _∷_, List, length, URA, w64, Val, SProp, ent, emp, via, fst∗, id⊢, Memory, Routine, Heap, Calls, Loops, WpFn, Atoms, Fun, factI, Lfts, Shares, givenOf, tables, Given, raw, _$_, _∵_, !, by, move, keep, use0, look, init, stop, from, and-then, no-more, land, returns, enter, alloc1, alloc0, params1, pass1, pass0, FmC, flat, Is, shows, mem, uint-lawful, u8, u64, Room, plain, typesAt, peeks, Args, onEntry, tripleOf, Contract, Triple, calls-at, cited, enum-lawful}
 use Rattle.walks.proofs.Parameters.{nothing-back, Handleds, shared-slice, given-slice, number, comesOf, passedAs}
 use Rattle.walks.proofs.Function.{enters, hands, twice, counted, returned, exits, Passed, PostOf, meets-by-walk}
@@ -64,7 +64,7 @@ module _ {M : Type 1} (𝓤 : URA M) (H : Heap 𝓤) (A : Atoms 𝓤) (at-mem : 
         lends-on ! 20 10 8 (refl, refl) refl refl refl (tt, tt) (refl, refl, refl) (tt, (tt, (record { fits = room₁ .0 }, tt))) $
         lends-on ! 18 6 4 (refl, refl) refl refl refl (tt, tt) (refl, refl, refl) (tt, (tt, (record { fits = room₂ .0 }, tt))) $
         lends-on ! 16 2 0 (refl, refl) refl refl refl (tt, tt) (refl, refl, refl) (tt, (tt, (record { fits = room₃ .0 }, tt))) $
-        -- the call of window::serve_window
+        -- the call of window_calls::serve_window
         counted W (a .1 .1 .1 .1 .0) gt $ move ! (29 ∷ 27 ∷ 30 ∷ 31 ∷ 32 ∷ 0 ∷ []) $ hands 𝓤 H A W called.signature (called.spec 𝓤 H A at-mem run) y (id⊢ 𝓤 (emp 𝓤)) $
         calls-at ! fm Call known y (and-then ! (held ! 23 refl) (and-then ! (held ! 9 refl) (and-then ! (held ! 5 refl) (and-then ! (held ! 1 refl) (and-then ! (held ! 15 refl) (no-more !)))))) (λ v.
         -- what comes back from it

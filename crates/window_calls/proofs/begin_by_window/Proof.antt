@@ -1,4 +1,4 @@
--- `window::begin_by_window` meets its contract, by a walk of its code: the row goes to `drive::begin`, and the windows with its answer to `after_begin`.
+-- `window_calls::begin_by_window` meets its contract, by a walk of its code: the row goes to `drive::begin`, and the windows with its answer to `after_begin`.
 use Rattle.walks.proofs.Kit.{_≡_, ap, _∙_, ℕ, _<_, _^_, _*_, _+_, [], _∷_, List, length, refl, URA, Val, SProp, ent, emp, id⊢, Memory, Routine, Heap, Calls, Loops, WpFn, Atoms, Fun, factI, Lfts, Shares, givenOf, tables, Given, _$_, _∵_, !, by, move, keep, look, init, stop, from, and-then, no-more, land, returns, enter, alloc1, alloc0, params1, pass1, pass0, FmC, flat, Is, shows, mem, u8, Room, typesAt, peeks, Args, onEntry, tripleOf, Contract, Triple, calls-at, cited, needs, enum-lawful}
 use Rattle.walks.proofs.Parameters.{list-back, Handleds, shared-slice, given-slice, number, passedAs, silent}
 use Rattle.walks.proofs.Function.{enters, hands, twice, counted, tokens-apart, tokens-together, returned, exits, Passed, PostOf, meets-by-walk}
@@ -21,7 +21,7 @@ use Rattle.window.proofs.WindowAnswer as R
 use Rattle.window.proofs.WindowAnswer.Laws as R′
 use Rattle.window_calls.proofs.after_begin as after
 use Rattle.window_calls.proofs.after_begin.Symbol as after-def
-use Rattle.window_calls.proofs.after_begin.Symbol.{name as #window·after-begin}
+use Rattle.window_calls.proofs.after_begin.Symbol.{name as #window-calls·after-begin}
 use Rattle.window_calls.proofs.after_begin.Met as after-thm
 use Rattle.window_calls.proofs.begin_by_window.Key.{name as #begin-by-window}
 use Rattle.window_calls.proofs.begin_by_window as fn
@@ -46,7 +46,7 @@ module _ {M : Type 1} (𝓤 : URA M) (H : Heap 𝓤) (A : Atoms 𝓤) (at-mem : 
   abbrev After : Contract 𝓤
   After = tripleOf 𝓤 H A after.signature (after.spec 𝓤 H A at-mem run)
 
-  module _ (W : Given 𝓤 H A) (C : Calls 𝓤 H) (Λ : Loops 𝓤 H) (fm : FmC 𝓤 H (W .laws) C) (known : Triple 𝓤 (C #drive·begin) Call) (known-a : Triple 𝓤 (C #window·after-begin) After) (κs : Lfts 3) (qs : Shares 3) (a : Args fn.signature κs) where
+  module _ (W : Given 𝓤 H A) (C : Calls 𝓤 H) (Λ : Loops 𝓤 H) (fm : FmC 𝓤 H (W .laws) C) (known : Triple 𝓤 (C #drive·begin) Call) (known-a : Triple 𝓤 (C #window-calls·after-begin) After) (κs : Lfts 3) (qs : Shares 3) (a : Args fn.signature κs) where
     abbrev y : Passed fn.signature params 𝓤 H A W (fn.clauses 𝓤 H A at-mem run)
     y = ((κs, qs, tt, a, passedAs fn.signature params κs a), tt)
 
@@ -81,7 +81,7 @@ module _ {M : Type 1} (𝓤 : URA M) (H : Heap 𝓤) (A : Atoms 𝓤) (at-mem : 
         move ! (5 ∷ []) $ peeks ! N.the-row (Is N.the-row) (shows 𝓤 H A N.the-row) b (v ∷ []) (λ is. land ! (from ! (stop !)) (init ! 15 refl (enum-lawful N.the-type N′.the-laws 𝓤 H A W tt .typed b _ is .0)) $
         -- a slice is lent on
         lends-on ! 21 9 7 (refl, refl) refl refl refl (tt, tt) (refl, refl, refl) (tt, (tt, (record { fits = room₂ .0 }, tt))) $
-        -- the call of window::after_begin
+        -- the call of window_calls::after_begin
         counted W (a .1 .1 .1 .0) gt $ move ! (7 ∷ []) $ tokens-together W 1 (κs .1 .1 .0, tt) (qs .1 .1 .0, tt) $ move ! (0 ∷ 31 ∷ 1 ∷ 2 ∷ []) $ hands 𝓤 H A W after.signature (after.spec 𝓤 H A at-mem run) (told b v) (factI 𝓤 _ (emp 𝓤) within) $
         calls-at ! fm After known-a (told b v) (and-then ! (held ! 6 refl) (and-then ! (held ! 18 refl) (and-then ! (held ! 14 refl) (no-more !)))) (λ v′.
         -- what comes back from it
@@ -99,5 +99,5 @@ begin-by-window-spec 𝓤 H 𝓜 𝓖 𝓡 =
     (λ fm κs qs bounds a g are. needs 𝓤 (8 * a .1 .1 .1 .0 + 7 < length (a .1 .1 .0 .now)) _
     (walk 𝓤 H (𝓖 .A) (𝓜 .mem) (𝓡 .run) (givenOf 𝓤 H 𝓜 𝓖) (tables 𝓤 H 𝓜 𝓡 code.env .C) (tables 𝓤 H 𝓜 𝓡 code.env .Λ) fm
     (cited 𝓤 H (Call 𝓤 H (𝓖 .A) (𝓜 .mem) (𝓡 .run)) 𝓜 𝓡 code.env #drive·begin called-def.routine code.calls-drive·begin (called-thm.met 𝓤 H 𝓜 𝓖 𝓡))
-    (cited 𝓤 H (After 𝓤 H (𝓖 .A) (𝓜 .mem) (𝓡 .run)) 𝓜 𝓡 code.env #window·after-begin after-def.routine code.calls-window-calls·after-begin (after-thm.met 𝓤 H 𝓜 𝓖 𝓡))
+    (cited 𝓤 H (After 𝓤 H (𝓖 .A) (𝓜 .mem) (𝓡 .run)) 𝓜 𝓡 code.env #window-calls·after-begin after-def.routine code.calls-window-calls·after-begin (after-thm.met 𝓤 H 𝓜 𝓖 𝓡))
     κs qs a (are .0 .0 .1) (are .1 .0 .0 .1) (are .1 .1 .0 .0 .1) (are .1 .1 .1 .0 .1) (are .1 .1 .1 .1 .0 .1)))

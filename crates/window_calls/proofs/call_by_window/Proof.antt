@@ -1,4 +1,4 @@
--- `window::call_by_window` meets its contract, by a walk of its code: all that it needs is passed on to `begin_by_window` or to `step_by_window`.
+-- `window_calls::call_by_window` meets its contract, by a walk of its code: all that it needs is passed on to `begin_by_window` or to `step_by_window`.
 use Rattle.walks.proofs.Kit.{_≡_, ℕ, _<_, _^_, _*_, _+_, [], _∷_, length, refl, URA, Val, SProp, ent, emp, id⊢, Memory, Routine, Heap, Calls, Loops, WpFn, Atoms, Fun, factI, Lfts, Shares, givenOf, tables, Given, _$_, _∵_, !, by, move, keep, look, init, stop, from, bin, lit, and-then, no-more, assigns, land, first, branches, skips, returns, returns-within, enter, alloc1, alloc0, params1, pass1, pass0, FmC, flat, Is, shows, mem, u8, u64, Room, typesAt, peeks, Args, onEntry, tripleOf, Contract, Triple, calls-at, cited, needs, enum-lawful}
 use Rattle.walks.proofs.Parameters.{list-back, Handleds, shared-slice, given-slice, number, passedAs}
 use Rattle.walks.proofs.Function.{enters, hands, twice, counted, unused, tokens-apart, tokens-together, returned, exits, Passed, PostOf, meets-by-walk}
@@ -13,11 +13,11 @@ use Rattle.window.proofs.WindowAnswer as R
 use Rattle.window.proofs.WindowAnswer.Laws as R′
 use Rattle.window_calls.proofs.begin_by_window as begins
 use Rattle.window_calls.proofs.begin_by_window.Symbol as begins-def
-use Rattle.window_calls.proofs.begin_by_window.Symbol.{name as #window·begin-by-window}
+use Rattle.window_calls.proofs.begin_by_window.Symbol.{name as #window-calls·begin-by-window}
 use Rattle.window_calls.proofs.begin_by_window.Met as begins-thm
 use Rattle.window_calls.proofs.step_by_window as steps
 use Rattle.window_calls.proofs.step_by_window.Symbol as steps-def
-use Rattle.window_calls.proofs.step_by_window.Symbol.{name as #window·step-by-window}
+use Rattle.window_calls.proofs.step_by_window.Symbol.{name as #window-calls·step-by-window}
 use Rattle.window_calls.proofs.step_by_window.Met as steps-thm
 use Rattle.window_calls.proofs.call_by_window.Key.{name as #call-by-window}
 use Rattle.window_calls.proofs.call_by_window as fn
@@ -36,7 +36,7 @@ module _ {M : Type 1} (𝓤 : URA M) (H : Heap 𝓤) (A : Atoms 𝓤) (at-mem : 
   abbrev Steps : Contract 𝓤
   Steps = tripleOf 𝓤 H A steps.signature (steps.spec 𝓤 H A at-mem run)
 
-  module _ (W : Given 𝓤 H A) (C : Calls 𝓤 H) (Λ : Loops 𝓤 H) (fm : FmC 𝓤 H (W .laws) C) (known-b : Triple 𝓤 (C #window·begin-by-window) Begins) (known-s : Triple 𝓤 (C #window·step-by-window) Steps) (κs : Lfts 4) (qs : Shares 4) (a : Args fn.signature κs) where
+  module _ (W : Given 𝓤 H A) (C : Calls 𝓤 H) (Λ : Loops 𝓤 H) (fm : FmC 𝓤 H (W .laws) C) (known-b : Triple 𝓤 (C #window-calls·begin-by-window) Begins) (known-s : Triple 𝓤 (C #window-calls·step-by-window) Steps) (κs : Lfts 4) (qs : Shares 4) (a : Args fn.signature κs) where
     abbrev y : Passed fn.signature params 𝓤 H A W (fn.clauses 𝓤 H A at-mem run)
     y = ((κs, qs, tt, a, passedAs fn.signature params κs a), tt)
 
@@ -81,7 +81,7 @@ module _ {M : Type 1} (𝓤 : URA M) (H : Heap 𝓤) (A : Atoms 𝓤) (at-mem : 
         -- two slices are lent on
         lends-on ! 30 18 16 (refl, refl) refl refl refl (tt, tt) (refl, refl, refl) (tt, (tt, (record { fits = room₂ .0 }, tt))) $
         lends-on ! 28 14 12 (refl, refl) refl refl refl (tt, tt) (refl, refl, refl) (tt, (tt, (record { fits = room₃ .0 }, tt))) $
-        -- the call of window::begin_by_window
+        -- the call of window_calls::begin_by_window
         move ! (40 ∷ []) $ tokens-apart W 4 κs qs $ counted W t gt $ counted W o go $ move ! (2 ∷ 4 ∷ 5 ∷ []) $ tokens-together W 3 κs₀ qs₀ $ move ! (0 ∷ 42 ∷ 45 ∷ 46 ∷ 2 ∷ 1 ∷ []) $ hands 𝓤 H A W begins.signature (begins.spec 𝓤 H A at-mem run) begun (factI 𝓤 _ (emp 𝓤) within) $
         calls-at ! fm Begins known-b begun (and-then ! (held ! 36 refl) (and-then ! (held ! 18 refl) (and-then ! (held ! 14 refl) (and-then ! (held ! 28 refl) (and-then ! (held ! 24 refl) (no-more !)))))) (λ v.
         -- what comes back from it
@@ -98,7 +98,7 @@ module _ {M : Type 1} (𝓤 : URA M) (H : Heap 𝓤) (A : Atoms 𝓤) (at-mem : 
         lends-on ! 32 10 8 (refl, refl) refl refl refl (tt, tt) (refl, refl, refl) (tt, (tt, (record { fits = room₁ .0 }, tt))) $
         lends-on ! 30 6 4 (refl, refl) refl refl refl (tt, tt) (refl, refl, refl) (tt, (tt, (record { fits = room₂ .0 }, tt))) $
         lends-on ! 28 2 0 (refl, refl) refl refl refl (tt, tt) (refl, refl, refl) (tt, (tt, (record { fits = room₃ .0 }, tt))) $
-        -- the call of window::step_by_window
+        -- the call of window_calls::step_by_window
         counted W t gt $ move ! (41 ∷ 39 ∷ 42 ∷ 43 ∷ 44 ∷ 0 ∷ []) $ hands 𝓤 H A W steps.signature (steps.spec 𝓤 H A at-mem run) stepped (factI 𝓤 _ (emp 𝓤) within) $
         calls-at ! fm Steps known-s stepped (and-then ! (held ! 35 refl) (and-then ! (held ! 9 refl) (and-then ! (held ! 5 refl) (and-then ! (held ! 1 refl) (and-then ! (held ! 27 refl) (no-more !)))))) (λ v.
         -- what comes back from it
@@ -115,6 +115,6 @@ call-by-window-spec 𝓤 H 𝓜 𝓖 𝓡 =
     meets-by-walk 𝓤 H 𝓜 𝓖 𝓡 fn.signature params (fn.clauses 𝓤 H (𝓖 .A) (𝓜 .mem) (𝓡 .run)) code.env #call-by-window code.function (code.unfolded 𝓤 H 𝓜 𝓡)
     (λ fm κs qs bounds a g are. needs 𝓤 (8 * a .1 .1 .1 .1 .0 + 7 < length (a .1 .1 .1 .0 .now)) _
     (walk 𝓤 H (𝓖 .A) (𝓜 .mem) (𝓡 .run) (givenOf 𝓤 H 𝓜 𝓖) (tables 𝓤 H 𝓜 𝓡 code.env .C) (tables 𝓤 H 𝓜 𝓡 code.env .Λ) fm
-    (cited 𝓤 H (Begins 𝓤 H (𝓖 .A) (𝓜 .mem) (𝓡 .run)) 𝓜 𝓡 code.env #window·begin-by-window begins-def.routine code.calls-window-calls·begin-by-window (begins-thm.met 𝓤 H 𝓜 𝓖 𝓡))
-    (cited 𝓤 H (Steps 𝓤 H (𝓖 .A) (𝓜 .mem) (𝓡 .run)) 𝓜 𝓡 code.env #window·step-by-window steps-def.routine code.calls-window-calls·step-by-window (steps-thm.met 𝓤 H 𝓜 𝓖 𝓡))
+    (cited 𝓤 H (Begins 𝓤 H (𝓖 .A) (𝓜 .mem) (𝓡 .run)) 𝓜 𝓡 code.env #window-calls·begin-by-window begins-def.routine code.calls-window-calls·begin-by-window (begins-thm.met 𝓤 H 𝓜 𝓖 𝓡))
+    (cited 𝓤 H (Steps 𝓤 H (𝓖 .A) (𝓜 .mem) (𝓡 .run)) 𝓜 𝓡 code.env #window-calls·step-by-window steps-def.routine code.calls-window-calls·step-by-window (steps-thm.met 𝓤 H 𝓜 𝓖 𝓡))
     κs qs a (are .0 .0 .1) (are .1 .0 .0 .1) (are .1 .1 .0 .0 .1) (are .1 .1 .1 .0 .0 .1) (are .1 .1 .1 .1 .0 .1) (are .1 .1 .1 .1 .1 .0 .1) (are .1 .1 .1 .1 .1 .1 .0 .1)))

@@ -1,4 +1,4 @@
--- `window::serve_asked` meets its contract, by a walk of its code: without a call of the library the windows go to `settle`, else all goes to
+-- `window_calls::serve_asked` meets its contract, by a walk of its code: without a call of the library the windows go to `settle`, else all goes to
 -- `call_by_window`.
 use Rattle.walks.proofs.Kit.{_≡_, ℕ, _<_, _^_, [], _∷_, length, refl, URA, w64, Val, vint, SProp, ent, emp, id⊢, Memory, Routine, Heap, Calls, Loops, WpFn, Atoms, Fun, factI, Lfts, Shares, givenOf, tables, Given, _$_, _∵_, !, by, move, keep, look, init, stop, fld, from, load, bin, lit, of-opd, and-then, no-more, assigns, land, first, branches, skips, returns, returns-within, enter, alloc1, alloc0, params1, pass1, pass0, whole, sub, look-in, FmC, flat, Is, shows, mem, u8, u64, Room, typesAt, peeks, Args, onEntry, tripleOf, Contract, Triple, calls-at, cited, needs, enum-lawful}
 use Rattle.walks.proofs.Parameters.{list-back, Handleds, shared-slice, given-slice, number, comesOf, passedAs}
@@ -13,11 +13,11 @@ use Rattle.window.proofs.WindowAnswer as R
 use Rattle.window.proofs.WindowAnswer.Laws as R′
 use Rattle.window_calls.proofs.settle as settles
 use Rattle.window_calls.proofs.settle.Symbol as settles-def
-use Rattle.window_calls.proofs.settle.Symbol.{name as #window·settle}
+use Rattle.window_calls.proofs.settle.Symbol.{name as #window-calls·settle}
 use Rattle.window_calls.proofs.settle.Met as settles-thm
 use Rattle.window_calls.proofs.call_by_window as calls
 use Rattle.window_calls.proofs.call_by_window.Symbol as calls-def
-use Rattle.window_calls.proofs.call_by_window.Symbol.{name as #window·call-by-window}
+use Rattle.window_calls.proofs.call_by_window.Symbol.{name as #window-calls·call-by-window}
 use Rattle.window_calls.proofs.call_by_window.Met as calls-thm
 use Rattle.window_calls.proofs.serve_asked.Key.{name as #serve-asked}
 use Rattle.window_calls.proofs.serve_asked as fn
@@ -36,7 +36,7 @@ module _ {M : Type 1} (𝓤 : URA M) (H : Heap 𝓤) (A : Atoms 𝓤) (at-mem : 
   abbrev Called : Contract 𝓤
   Called = tripleOf 𝓤 H A calls.signature (calls.spec 𝓤 H A at-mem run)
 
-  module _ (W : Given 𝓤 H A) (C : Calls 𝓤 H) (Λ : Loops 𝓤 H) (fm : FmC 𝓤 H (W .laws) C) (known-e : Triple 𝓤 (C #window·settle) Settles) (known-c : Triple 𝓤 (C #window·call-by-window) Called) (κs : Lfts 4) (qs : Shares 4) (a : Args fn.signature κs) where
+  module _ (W : Given 𝓤 H A) (C : Calls 𝓤 H) (Λ : Loops 𝓤 H) (fm : FmC 𝓤 H (W .laws) C) (known-e : Triple 𝓤 (C #window-calls·settle) Settles) (known-c : Triple 𝓤 (C #window-calls·call-by-window) Called) (κs : Lfts 4) (qs : Shares 4) (a : Args fn.signature κs) where
     abbrev y : Passed fn.signature params 𝓤 H A W (fn.clauses 𝓤 H A at-mem run)
     y = ((κs, qs, tt, a, passedAs fn.signature params κs a), tt)
 
@@ -76,7 +76,7 @@ module _ {M : Type 1} (𝓤 : URA M) (H : Heap 𝓤) (A : Atoms 𝓤) (at-mem : 
         assigns ! (of-opd ! (load ! (from ! (fld ! refl (stop !))) (look-in ! 28 (sub ! 1 refl (whole !))))) (from ! (stop !)) (init ! 18 refl (tt, record { fits = room₂ .0 })) $
         -- a slice is lent on
         lends-on ! 26 14 12 (refl, refl) refl refl refl (tt, tt) (refl, refl, refl) (tt, (tt, (record { fits = room₃ .0 }, tt))) $
-        -- the call of window::settle
+        -- the call of window_calls::settle
         move ! (38 ∷ []) $ tokens-apart W 4 κs qs $ counted W n (room₂ .0) $ counted W t gt $ move ! (5 ∷ []) $ tokens-together W 1 (κs .1 .1 .1 .0, tt) (qs .1 .1 .1 .0, tt) $ move ! (0 ∷ 46 ∷ 2 ∷ 1 ∷ []) $ hands 𝓤 H A W settles.signature (settles.spec 𝓤 H A at-mem run) alone (id⊢ 𝓤 (emp 𝓤)) $
         calls-at ! fm Settles known-e alone (and-then ! (held ! 16 refl) (and-then ! (held ! 22 refl) (and-then ! (held ! 28 refl) (no-more !)))) (λ v.
         -- what comes back from it
@@ -94,7 +94,7 @@ module _ {M : Type 1} (𝓤 : URA M) (H : Heap 𝓤) (A : Atoms 𝓤) (at-mem : 
         lends-on ! 30 10 8 (refl, refl) refl refl refl (tt, tt) (refl, refl, refl) (tt, (tt, (record { fits = room₁ .0 }, tt))) $
         lends-on ! 28 6 4 (refl, refl) refl refl refl (tt, tt) (refl, refl, refl) (tt, (tt, (record { fits = room₂ .0 }, tt))) $
         lends-on ! 26 2 0 (refl, refl) refl refl refl (tt, tt) (refl, refl, refl) (tt, (tt, (record { fits = room₃ .0 }, tt))) $
-        -- the call of window::call_by_window
+        -- the call of window_calls::call_by_window
         counted W t gt $ counted W k gk $ counted W o go $ move ! (41 ∷ 39 ∷ 42 ∷ 43 ∷ 44 ∷ 2 ∷ 1 ∷ 0 ∷ []) $ hands 𝓤 H A W calls.signature (calls.spec 𝓤 H A at-mem run) y (factI 𝓤 _ (emp 𝓤) (called-within (a .1 .1 .1 .0 .now) n t (asked .0) some-call)) $
         calls-at ! fm Called known-c y (and-then ! (held ! 33 refl) (and-then ! (held ! 9 refl) (and-then ! (held ! 5 refl) (and-then ! (held ! 1 refl) (and-then ! (held ! 25 refl) (and-then ! (held ! 23 refl) (and-then ! (held ! 21 refl) (no-more !)))))))) (λ v.
         -- what comes back from it
@@ -111,6 +111,6 @@ serve-asked-spec 𝓤 H 𝓜 𝓖 𝓡 =
     meets-by-walk 𝓤 H 𝓜 𝓖 𝓡 fn.signature params (fn.clauses 𝓤 H (𝓖 .A) (𝓜 .mem) (𝓡 .run)) code.env #serve-asked code.function (code.unfolded 𝓤 H 𝓜 𝓡)
     (λ fm κs qs bounds a g are. needs 𝓤 ((a .1 .1 .1 .1 .1 .0 ≡ workOf (askedOf (a .1 .1 .1 .0 .now) (length (a .1 .1 .0 .now)) (a .1 .1 .1 .1 .0)) .call) × (a .1 .1 .1 .1 .1 .1 .0 ≡ workOf (askedOf (a .1 .1 .1 .0 .now) (length (a .1 .1 .0 .now)) (a .1 .1 .1 .1 .0)) .operation)) _
     (walk 𝓤 H (𝓖 .A) (𝓜 .mem) (𝓡 .run) (givenOf 𝓤 H 𝓜 𝓖) (tables 𝓤 H 𝓜 𝓡 code.env .C) (tables 𝓤 H 𝓜 𝓡 code.env .Λ) fm
-    (cited 𝓤 H (Settles 𝓤 H (𝓖 .A) (𝓜 .mem) (𝓡 .run)) 𝓜 𝓡 code.env #window·settle settles-def.routine code.calls-window-calls·settle (settles-thm.met 𝓤 H 𝓜 𝓖 𝓡))
-    (cited 𝓤 H (Called 𝓤 H (𝓖 .A) (𝓜 .mem) (𝓡 .run)) 𝓜 𝓡 code.env #window·call-by-window calls-def.routine code.calls-window-calls·call-by-window (calls-thm.met 𝓤 H 𝓜 𝓖 𝓡))
+    (cited 𝓤 H (Settles 𝓤 H (𝓖 .A) (𝓜 .mem) (𝓡 .run)) 𝓜 𝓡 code.env #window-calls·settle settles-def.routine code.calls-window-calls·settle (settles-thm.met 𝓤 H 𝓜 𝓖 𝓡))
+    (cited 𝓤 H (Called 𝓤 H (𝓖 .A) (𝓜 .mem) (𝓡 .run)) 𝓜 𝓡 code.env #window-calls·call-by-window calls-def.routine code.calls-window-calls·call-by-window (calls-thm.met 𝓤 H 𝓜 𝓖 𝓡))
     κs qs a (are .0 .0 .1) (are .1 .0 .0 .1) (are .1 .1 .0 .0 .1) (are .1 .1 .1 .0 .0 .1) (are .1 .1 .1 .1 .0 .1) (are .1 .1 .1 .1 .1 .0 .1) (are .1 .1 .1 .1 .1 .1 .0 .1)))

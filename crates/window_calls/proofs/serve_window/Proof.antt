@@ -1,4 +1,4 @@
--- `window::serve_window` meets its contract, by a walk of its code: the windows are lent to `work_of_call`, and its answer is passed on with all to
+-- `window_calls::serve_window` meets its contract, by a walk of its code: the windows are lent to `work_of_call`, and its answer is passed on with all to
 -- `serve_asked`.
 use Rattle.walks.proofs.Kit.{_≡_, ap, ℕ, _<_, _^_, [], _∷_, length, refl, URA, fullShare, named, w64, Val, vint, SProp, ent, emp, via, fst∗, id⊢, GName, flft, fat, Memory, Routine, Heap, Calls, Loops, WpFn, Atoms, Fun, factI, Lfts, Shares, givenOf, tables, Given, ‵, _⊛_, some, later, _$_, _∵_, !, by, move, keep, drop, use2, split, pick, await, rewrite, lft-new, lft-end, look, init, stop, fld, from, load, of-opd, and-then, no-more, assigns, land, returns, enter, alloc1, alloc0, params1, pass1, pass0, whole, sub, look-in, FmC, flat, Is, shows, mem, u8, u64, MutSlice, Room, typesAt, peeks, only, Args, onEntry, tripleOf, Contract, Triple, calls-at, cited, enum-lawful, struct-lawful, struct-tells, struct-owed}
 use Rattle.walks.proofs.Parameters.{list-back, Handleds, shared-slice, given-slice, number, passedAs}
@@ -16,11 +16,11 @@ use Rattle.window.proofs.Work as O
 use Rattle.window.proofs.Work.Laws as O′
 use Rattle.window_calls.proofs.work_of_call as asks
 use Rattle.window_calls.proofs.work_of_call.Symbol as asks-def
-use Rattle.window_calls.proofs.work_of_call.Symbol.{name as #window·work-of-call}
+use Rattle.window_calls.proofs.work_of_call.Symbol.{name as #window-calls·work-of-call}
 use Rattle.window_calls.proofs.work_of_call.Met as asks-thm
 use Rattle.window_calls.proofs.serve_asked as serves
 use Rattle.window_calls.proofs.serve_asked.Symbol as serves-def
-use Rattle.window_calls.proofs.serve_asked.Symbol.{name as #window·serve-asked}
+use Rattle.window_calls.proofs.serve_asked.Symbol.{name as #window-calls·serve-asked}
 use Rattle.window_calls.proofs.serve_asked.Met as serves-thm
 use Rattle.window_calls.proofs.serve_window.Key.{name as #serve-window}
 use Rattle.window_calls.proofs.serve_window as fn
@@ -38,7 +38,7 @@ module _ {M : Type 1} (𝓤 : URA M) (H : Heap 𝓤) (A : Atoms 𝓤) (at-mem : 
   abbrev Serves : Contract 𝓤
   Serves = tripleOf 𝓤 H A serves.signature (serves.spec 𝓤 H A at-mem run)
 
-  module _ (W : Given 𝓤 H A) (C : Calls 𝓤 H) (Λ : Loops 𝓤 H) (fm : FmC 𝓤 H (W .laws) C) (known-w : Triple 𝓤 (C #window·work-of-call) Asks) (known-s : Triple 𝓤 (C #window·serve-asked) Serves) (κs : Lfts 4) (qs : Shares 4) (a : Args fn.signature κs) where
+  module _ (W : Given 𝓤 H A) (C : Calls 𝓤 H) (Λ : Loops 𝓤 H) (fm : FmC 𝓤 H (W .laws) C) (known-w : Triple 𝓤 (C #window-calls·work-of-call) Asks) (known-s : Triple 𝓤 (C #window-calls·serve-asked) Serves) (κs : Lfts 4) (qs : Shares 4) (a : Args fn.signature κs) where
     abbrev y : Passed fn.signature params 𝓤 H A W (fn.clauses 𝓤 H A at-mem run)
     y = ((κs, qs, tt, a, passedAs fn.signature params κs a), tt)
 
@@ -71,7 +71,7 @@ module _ {M : Type 1} (𝓤 : URA M) (H : Heap 𝓤) (A : Atoms 𝓤) (at-mem : 
         lft-new ! tt (λ α. move ! (35 ∷ []) $ tokens-apart W 4 κs qs $ move ! (41 ∷ 3 ∷ []) $
         use2 W (later (some (λ (γ : GName). ‵ (ShrSlice (named 0) (α ∷ []) u8 .own (loaned 𝓤 H A W u8 γ (a .1 .1 .1 .0)) (slice-vals (a .1 .1 .1 .0))) ⊛ ‵ (Kept 𝓤 H A W u8 (κs .1 .1 .1 .0) (qs .1 .1 .1 .0) (α ∷ []) (a .1 .1 .1 .0)))))
         (shares-out 𝓤 H A W u8 (named 3) (named 0) (κs .1 .1 .1 .0) (α ∷ []) (qs .1 .1 .1 .0) (a .1 .1 .1 .0) room₃) $
-        -- the call of window::work_of_call
+        -- the call of window_calls::work_of_call
         await ! tt $ pick ! (λ γ. split ! $ counted W n (room₂ .0) $ counted W t gt $ move ! (7 ∷ []) $ tokens-together W 1 (α ∷ [], tt) (fullShare, tt) $ move ! (0 ∷ 3 ∷ 2 ∷ 1 ∷ []) $ hands 𝓤 H A W asks.signature (asks.spec 𝓤 H A at-mem run) (passed α γ) (id⊢ 𝓤 (emp 𝓤)) $
         calls-at ! fm Asks known-w (passed α γ) (and-then ! (held ! 17 refl) (and-then ! (held ! 23 refl) (and-then ! (held ! 25 refl) (no-more !)))) (λ v.
         -- what comes back from it
@@ -87,7 +87,7 @@ module _ {M : Type 1} (𝓤 : URA M) (H : Heap 𝓤) (A : Atoms 𝓤) (at-mem : 
         lends-on ! 28 12 10 (refl, refl) refl refl refl (tt, tt) (refl, refl, refl) (tt, (tt, (record { fits = room₁ .0 }, tt))) $
         lends-on ! 26 8 6 (refl, refl) refl refl refl (tt, tt) (refl, refl, refl) (tt, (tt, (record { fits = room₂ .0 }, tt))) $
         lends-on ! 24 4 2 (refl, refl) refl refl refl (tt, tt) (refl, refl, refl) (tt, (tt, (record { fits = room₃ .0 }, tt))) $
-        -- the call of window::serve_asked
+        -- the call of window_calls::serve_asked
         counted W t gt $ counted W (w .call) (parts .0 .1) $ counted W (w .operation) (parts .1 .0 .1) $ move ! (3 ∷ 37 ∷ 39 ∷ 40 ∷ 4 ∷ 2 ∷ 1 ∷ 0 ∷ []) $ hands 𝓤 H A W serves.signature (serves.spec 𝓤 H A at-mem run) (all w) (factI 𝓤 _ (emp 𝓤) (ap (λ (z : Work). z .call) ew, ap (λ (z : Work). z .operation) ew)) $
         calls-at ! fm Serves known-s (all w) (and-then ! (held ! 29 refl) (and-then ! (held ! 9 refl) (and-then ! (held ! 5 refl) (and-then ! (held ! 1 refl) (and-then ! (held ! 21 refl) (and-then ! (load ! (from ! (fld ! refl (stop !))) (look-in ! 17 (sub ! 0 refl (whole !)))) (and-then ! (load ! (from ! (fld ! refl (stop !))) (look-in ! 17 (sub ! 1 refl (whole !)))) (no-more !)))))))) (λ v′.
         -- what comes back from it
@@ -104,6 +104,6 @@ serve-window-spec 𝓤 H 𝓜 𝓖 𝓡 =
     meets-by-walk 𝓤 H 𝓜 𝓖 𝓡 fn.signature params (fn.clauses 𝓤 H (𝓖 .A) (𝓜 .mem) (𝓡 .run)) code.env #serve-window code.function (code.unfolded 𝓤 H 𝓜 𝓡)
     (λ fm κs qs bounds a g are. via 𝓤 _ (fst∗ 𝓤 _ (emp 𝓤))
     (walk 𝓤 H (𝓖 .A) (𝓜 .mem) (𝓡 .run) (givenOf 𝓤 H 𝓜 𝓖) (tables 𝓤 H 𝓜 𝓡 code.env .C) (tables 𝓤 H 𝓜 𝓡 code.env .Λ) fm
-    (cited 𝓤 H (Asks 𝓤 H (𝓖 .A) (𝓜 .mem) (𝓡 .run)) 𝓜 𝓡 code.env #window·work-of-call asks-def.routine code.calls-window-calls·work-of-call (asks-thm.met 𝓤 H 𝓜 𝓖 𝓡))
-    (cited 𝓤 H (Serves 𝓤 H (𝓖 .A) (𝓜 .mem) (𝓡 .run)) 𝓜 𝓡 code.env #window·serve-asked serves-def.routine code.calls-window-calls·serve-asked (serves-thm.met 𝓤 H 𝓜 𝓖 𝓡))
+    (cited 𝓤 H (Asks 𝓤 H (𝓖 .A) (𝓜 .mem) (𝓡 .run)) 𝓜 𝓡 code.env #window-calls·work-of-call asks-def.routine code.calls-window-calls·work-of-call (asks-thm.met 𝓤 H 𝓜 𝓖 𝓡))
+    (cited 𝓤 H (Serves 𝓤 H (𝓖 .A) (𝓜 .mem) (𝓡 .run)) 𝓜 𝓡 code.env #window-calls·serve-asked serves-def.routine code.calls-window-calls·serve-asked (serves-thm.met 𝓤 H 𝓜 𝓖 𝓡))
     κs qs a (are .0 .0 .1) (are .1 .0 .0 .1) (are .1 .1 .0 .0 .1) (are .1 .1 .1 .0 .0 .1) (are .1 .1 .1 .1 .0 .1)))

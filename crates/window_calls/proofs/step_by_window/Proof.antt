@@ -1,4 +1,4 @@
--- `window::step_by_window` meets its contract, by a walk of its code: cells and row go to `drive::step`, and the windows with its answer to `after_step`.
+-- `window_calls::step_by_window` meets its contract, by a walk of its code: cells and row go to `drive::step`, and the windows with its answer to `after_step`.
 use Rattle.walks.proofs.Kit.{_≡_, ap, _∙_, ℕ, _<_, _^_, _*_, _+_, [], _∷_, List, length, refl, URA, Val, SProp, ent, emp, id⊢, Memory, Routine, Heap, Calls, Loops, WpFn, Atoms, Fun, factI, Lfts, Shares, givenOf, tables, Given, _$_, _∵_, !, by, move, keep, look, init, stop, from, and-then, no-more, land, returns, enter, alloc1, alloc0, params1, pass1, pass0, FmC, flat, Is, shows, mem, u8, u64, Room, typesAt, peeks, Args, onEntry, tripleOf, Contract, Triple, calls-at, cited, needs, enum-lawful}
 use Rattle.walks.proofs.Parameters.{list-back, Handleds, shared-slice, given-slice, number, passedAs, silent}
 use Rattle.walks.proofs.Function.{enters, hands, twice, counted, tokens-apart, tokens-together, returned, exits, Passed, PostOf, meets-by-walk}
@@ -21,7 +21,7 @@ use Rattle.window.proofs.WindowAnswer as R
 use Rattle.window.proofs.WindowAnswer.Laws as R′
 use Rattle.window_calls.proofs.after_step as after
 use Rattle.window_calls.proofs.after_step.Symbol as after-def
-use Rattle.window_calls.proofs.after_step.Symbol.{name as #window·after-step}
+use Rattle.window_calls.proofs.after_step.Symbol.{name as #window-calls·after-step}
 use Rattle.window_calls.proofs.after_step.Met as after-thm
 use Rattle.window_calls.proofs.step_by_window.Key.{name as #step-by-window}
 use Rattle.window_calls.proofs.step_by_window as fn
@@ -46,7 +46,7 @@ module _ {M : Type 1} (𝓤 : URA M) (H : Heap 𝓤) (A : Atoms 𝓤) (at-mem : 
   abbrev After : Contract 𝓤
   After = tripleOf 𝓤 H A after.signature (after.spec 𝓤 H A at-mem run)
 
-  module _ (W : Given 𝓤 H A) (C : Calls 𝓤 H) (Λ : Loops 𝓤 H) (fm : FmC 𝓤 H (W .laws) C) (known : Triple 𝓤 (C #drive·step) Call) (known-a : Triple 𝓤 (C #window·after-step) After) (κs : Lfts 4) (qs : Shares 4) (a : Args fn.signature κs) where
+  module _ (W : Given 𝓤 H A) (C : Calls 𝓤 H) (Λ : Loops 𝓤 H) (fm : FmC 𝓤 H (W .laws) C) (known : Triple 𝓤 (C #drive·step) Call) (known-a : Triple 𝓤 (C #window-calls·after-step) After) (κs : Lfts 4) (qs : Shares 4) (a : Args fn.signature κs) where
     abbrev y : Passed fn.signature params 𝓤 H A W (fn.clauses 𝓤 H A at-mem run)
     y = ((κs, qs, tt, a, passedAs fn.signature params κs a), tt)
 
@@ -82,7 +82,7 @@ module _ {M : Type 1} (𝓤 : URA M) (H : Heap 𝓤) (A : Atoms 𝓤) (at-mem : 
         move ! (5 ∷ []) $ peeks ! N.the-row (Is N.the-row) (shows 𝓤 H A N.the-row) b (v ∷ []) (λ is. land ! (from ! (stop !)) (init ! 19 refl (enum-lawful N.the-type N′.the-laws 𝓤 H A W tt .typed b _ is .0)) $
         -- a slice is lent on
         lends-on ! 23 9 7 (refl, refl) refl refl refl (tt, tt) (refl, refl, refl) (tt, (tt, (record { fits = room₃ .0 }, tt))) $
-        -- the call of window::after_step
+        -- the call of window_calls::after_step
         counted W (a .1 .1 .1 .1 .0) gt $ move ! (7 ∷ []) $ tokens-together W 1 (κs .1 .1 .1 .0, tt) (qs .1 .1 .1 .0, tt) $ move ! (0 ∷ 35 ∷ 1 ∷ 2 ∷ []) $ hands 𝓤 H A W after.signature (after.spec 𝓤 H A at-mem run) (told b v) (factI 𝓤 _ (emp 𝓤) within) $
         calls-at ! fm After known-a (told b v) (and-then ! (held ! 6 refl) (and-then ! (held ! 20 refl) (and-then ! (held ! 18 refl) (no-more !)))) (λ v′.
         -- what comes back from it
@@ -100,5 +100,5 @@ step-by-window-spec 𝓤 H 𝓜 𝓖 𝓡 =
     (λ fm κs qs bounds a g are. needs 𝓤 (8 * a .1 .1 .1 .1 .0 + 7 < length (a .1 .1 .1 .0 .now)) _
     (walk 𝓤 H (𝓖 .A) (𝓜 .mem) (𝓡 .run) (givenOf 𝓤 H 𝓜 𝓖) (tables 𝓤 H 𝓜 𝓡 code.env .C) (tables 𝓤 H 𝓜 𝓡 code.env .Λ) fm
     (cited 𝓤 H (Call 𝓤 H (𝓖 .A) (𝓜 .mem) (𝓡 .run)) 𝓜 𝓡 code.env #drive·step called-def.routine code.calls-drive·step (called-thm.met 𝓤 H 𝓜 𝓖 𝓡))
-    (cited 𝓤 H (After 𝓤 H (𝓖 .A) (𝓜 .mem) (𝓡 .run)) 𝓜 𝓡 code.env #window·after-step after-def.routine code.calls-window-calls·after-step (after-thm.met 𝓤 H 𝓜 𝓖 𝓡))
+    (cited 𝓤 H (After 𝓤 H (𝓖 .A) (𝓜 .mem) (𝓡 .run)) 𝓜 𝓡 code.env #window-calls·after-step after-def.routine code.calls-window-calls·after-step (after-thm.met 𝓤 H 𝓜 𝓖 𝓡))
     κs qs a (are .0 .0 .1) (are .1 .0 .0 .1) (are .1 .1 .0 .0 .1) (are .1 .1 .1 .0 .0 .1) (are .1 .1 .1 .1 .0 .1)))
