@@ -6,13 +6,20 @@ use crate::table::{Table, MOST_OPERATIONS, MOST_STATES};
 use crate::table_cases::Case;
 use crate::table_file::TableFile;
 
-/// Whether an operation of the file is reading though it moves some state: one that can't be reached.
+/// The operations of a file that are reading though they move some state: one that can't be reached.
+pub fn moving_out_of_reach(file: &[u8]) -> Vec<usize> {
+    let Ok(table) = Table::check(file) else {
+        return Vec::new();
+    };
+    let table = table.with_changing_noted();
+    let moves = |operation: &usize| (0..table.states).any(|state| table.reply(state, *operation).moved);
+    let reading = (0..table.operations).filter(|&operation| !table.is_changing(operation));
+    reading.filter(moves).collect()
+}
+
+/// Whether a file has such an operation.
 pub fn moves_unreachable_alone(file: &[u8]) -> bool {
-    let moved = |table: &Table, operation| (0..table.states).any(|state| table.reply(state, operation).moved);
-    Table::check(file).is_ok_and(|table| {
-        let table = table.with_changing_noted();
-        (0..table.operations).any(|operation| !table.is_changing(operation) && moved(&table, operation))
-    })
+    !moving_out_of_reach(file).is_empty()
 }
 
 /// A table whose operations keep every state; a state answers its number.

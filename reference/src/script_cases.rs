@@ -289,7 +289,7 @@ impl<'a> Writer<'a> {
 mod tests {
     use super::*;
     use crate::bench::output;
-    use crate::table::Table;
+    use crate::reach_cases::moving_out_of_reach;
     use crate::trace::served_lines;
     use crate::trace_event::Event;
 
@@ -358,20 +358,11 @@ mod tests {
     /// Whether a script begins an operation that is reading though it moves some state: one that can't be reached.
     fn begins_moving_out_of_reach(script: &Script) -> bool {
         let file = script.table.as_deref().unwrap_or(&[]);
-        let moves = |operation: usize| {
-            let table = Table::check(file).expect("an accepted table");
-            (0..table.states).any(|state| table.reply(state, operation).moved)
-        };
+        let out_of_reach = moving_out_of_reach(file);
         let lines = served_lines(file, &script.input).unwrap_or_default();
         let mut events = lines.iter().flat_map(|line| &line.events);
-        events.any(|event| match *event {
-            Event::Begun {
-                operation,
-                changing: false,
-                ..
-            } => moves(operation),
-            _ => false,
-        })
+        events
+            .any(|event| matches!(event, Event::Begun { operation, .. } if out_of_reach.contains(operation)))
     }
 
     #[test]

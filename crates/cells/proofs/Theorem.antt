@@ -13,7 +13,7 @@ use Rattle.laws.proofs.Decision.{same-tests}
 use Rattle.cells.specs.Field.{total}
 use Rattle.cells.specs.Form.{holderBound, outcomeInForm, headFieldsInForm, headInForm}
 use Rattle.cells.specs.Layout.{headWidths}
-use Rattle.cells.specs.Statement.{holderIn, HeadPoints, PointByPoint, HolderIsTask, WithinEight, ForMore, Sharp}
+use Rattle.cells.specs.Statement.{stateInWord, holderIn, HeadPoints, PointByPoint, HolderIsTask, WithinEight, ForMore, Sharp}
 use Rattle.cells.proofs.Fields.{unpackAt, unpack-places}
 use Rattle.cells.proofs.Forms.{form-of}
 use Rattle.cells.proofs.HeadLaws.{head-formed, head-range}
@@ -38,13 +38,13 @@ point-by-point s n w = (points, holds)
     points e =
         let f = head-formed s n w e in
         let t = rw (unpack-places headWidths w) at (f .passed) in
-        let first = and-eq-true-iff (ltb (w / 256 % 256) s) (leb (holderIn w) (holderBound n) && outcome) .0 t in
+        let first = and-eq-true-iff (ltb (stateInWord w) s) (leb (holderIn w) (holderBound n) && outcome) .0 t in
         let second = and-eq-true-iff (leb (holderIn w) (holderBound n)) outcome .0 (first .1) in
         let bounded : holderIn w ≤ holderBound n = leb-true (holderIn w) (holderBound n) (second .0) in
         record {
           named = f .small;
           marked = f .few;
-          state = ltb-true (w / 256 % 256) s (first .0);
+          state = ltb-true (stateInWord w) s (first .0);
           holder = omega (arith, bounded);
           most = omega (arith, bounded);
           free = outcome-points (holderIn w) (w / 65536 % 256) (w / 268435456 % 2) .0 (second .1);
@@ -58,7 +58,7 @@ point-by-point s n w = (points, holds)
         (record {
           small = p .named;
           few = p .marked;
-          passed = rw (unpack-places headWidths w) (rw (lt-ltb (w / 256 % 256) s (p .state), le-leb (holderIn w) (holderBound n) bounded, kept));
+          passed = rw (unpack-places headWidths w) (rw (lt-ltb (stateInWord w) s (p .state), le-leb (holderIn w) (holderBound n) bounded, kept));
         })
 
 -- The holder of a head in form is a task.

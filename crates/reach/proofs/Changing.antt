@@ -80,6 +80,7 @@ module _ (file : List ℕ) (shape : Shape) (closed : Closed file shape) where
     exactly = record {
       changes = (changes, λ (state, r, other). moved-changing state r other);
       reads = (λ e state r. unmoved-keeps file shape state operation (reading-unmoved e state r), kept-reading);
+      moves-one = λ e. let (state, r, other) = changes e in (state, reachable-below file shape closed state r, other);
     }
 
 pub accepted-states : AcceptedStates

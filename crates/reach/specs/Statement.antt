@@ -76,11 +76,12 @@ pub record ReachedStates (file : List ℕ) (shape : Shape) : Type 0 where
   pub below : (state : ℕ) → Reachable file shape state → state < shape .states
   pub tested : (state : ℕ) → (reachable file shape state ≡ true) ↔ Reachable file shape state
 
--- An operation is changing exactly if it leads from some state that can be reached to another one, and reading exactly if it keeps
--- every state that can be reached.
+-- An operation is changing exactly if it leads from some state that can be reached to another one, and reading exactly if it
+-- preserves every state that can be reached. So a changing one leads from some state of the table to another.
 pub record ChangingExactly (file : List ℕ) (shape : Shape) (operation : ℕ) : Type 0 where
   pub changes : (changing file shape operation ≡ true) ↔ ((state : ℕ) × Reachable file shape state × (nextOf file shape state operation ≢ state))
   pub reads : (changing file shape operation ≡ false) ↔ ((state : ℕ) → Reachable file shape state → nextOf file shape state operation ≡ state)
+  pub moves-one : changing file shape operation ≡ true → (state : ℕ) × (state < shape .states) × (nextOf file shape state operation ≢ state)
 
 -- So it is in every accepted table.
 abbrev pub AcceptedStates : Type 0

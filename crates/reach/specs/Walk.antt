@@ -1,4 +1,4 @@
--- docs/FORMATS.md, "One file for one object": which states can be reached from the start state. It knows no order of states.
+-- docs/FORMATS.md, "The object table": which states can be reached from the start state. It knows no order of states.
 use mathlib.Core.Path.{_≡_}
 use mathlib.Core.List.{List, [], _∷_}
 use Prim.Native.Nat.{ℕ, _<_}

@@ -173,11 +173,14 @@ read-by-spare : changing spareFile spareShape 0 ≡ false
 unfolding spareFile changing reachable orderOf turns turn meetNext meet moves entryOf anyBelow
 read-by-spare = refl
 
+pends-0 : pending (shown spare-opening .history (Begin 0 0 ∷ [])) 0 ≡ Pends 0 0
+pends-0 = subst (λ a. heard 0 (Begin 0 0) a Nothing ≡ Pends 0 0) (sym begun) refl
+
 pub spare-rest : SpareRest
 unfolding spare-opening entryOf spareFile
 spare-rest = record {
   opening = spare-opening;
-  pends = subst (λ a. heard 0 (Begin 0 0) a Nothing ≡ Pends 0 0) (sym begun) refl;
+  pends = pends-0;
   rests = λ t. subst (λ a. Reads (objectIn spare-opening) (heard t (Begin 0 0) a Nothing)) (sym begun) (choice (Reads (objectIn spare-opening)) (eqb 0 t) (Pends 0 0) Nothing read-by-spare tt);
-  moved = λ keeps. let same : _≡_ {A = ℕ} 0 2 = keeps 2 (omega arith) in omega arith;
+  moved = λ all. let same : _≡_ {A = ℕ} 0 2 = all 0 0 0 pends-0 2 (omega arith) in omega arith;
 }

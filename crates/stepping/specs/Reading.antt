@@ -25,7 +25,7 @@ use Rattle.stepping.specs.Runs.{Store}
 use Rattle.stepping.specs.Opening.{Opening, objectIn, shown, startStore}
 use Rattle.stepping.specs.Statement.{StepTested, FitsTable, Demands, recordAfter}
 
--- An operation preserves each of some states: it leads from them to themselves.
+-- An operation preserves every state of a kind: it leads from each back to that same state.
 abbrev pub Preserves : List ℕ → Shape → (ℕ → Type 0) → ℕ → Type 0
 Preserves file shape States x = (q : ℕ) → States q → nextOf file shape q x ≡ q
 
@@ -64,7 +64,7 @@ EndsAtOnce {file} {n} o =
     → (accessOf file n t (recordAfter o xs t) ≡ Read 0)
     × ((r : ℕ) × (shown o .answer xs (Step t) ≡ Ended (record { response = r; moved = false }) 1))
 
--- Every pending operation of a history preserves some states.
+-- Every pending operation of a history preserves every state of a kind.
 abbrev pub AllPreserve : List ℕ → Shape → (ℕ → Type 0) → List Event → Type 0
 AllPreserve file shape States es = (t x k : ℕ) → pending es t ≡ Pends x k → Preserves file shape States x
 
@@ -73,12 +73,12 @@ abbrev pub RestExactly : {file : List ℕ} {n q : ℕ} {s : Store} → Opening f
 RestExactly {file} o =
     (xs : List Call) → Rest (objectIn o) (shown o .history xs) ↔ AllPreserve file (o .shape) (Reachable file (o .shape)) (shown o .history xs)
 
--- There the cells are the image of the book's state.
+-- At such a point the cells are the image of the book's state.
 abbrev pub RestImage : {file : List ℕ} {n q : ℕ} {s : Store} (o : Opening file n q s) → Demands o → Type 0
 RestImage {file} {n} o d =
     (xs : List Call) → AllPreserve file (o .shape) (Reachable file (o .shape)) (shown o .history xs) → shown o .cells xs ≡ image n (d .book xs .state)
 
--- A point at which every pending operation preserves every state of the table is one of them.
+-- A point at which every pending operation preserves every state of the table is one of rest.
 abbrev pub RestKept : {file : List ℕ} {n q : ℕ} {s : Store} → Opening file n q s → Type 0
 RestKept {file} o = (xs : List Call) → AllPreserve file (o .shape) (λ p. p < o .shape .states) (shown o .history xs) → Rest (objectIn o) (shown o .history xs)
 
@@ -90,9 +90,10 @@ spareFile =
     0 ∷ 10 ∷ 1 ∷ 11 ∷ 1 ∷ 20 ∷ 0 ∷ 21 ∷ 0 ∷ 30 ∷ 2 ∷ 31
     ∷ 0x00 ∷ 0x00 ∷ 0x00 ∷ 0x00 ∷ 0x03 ∷ 0x00 ∷ 0x02 ∷ 0x00 ∷ 0x00 ∷ 0x00 ∷ 0x44 ∷ 0x52 ∷ 0x49 ∷ 0x56 ∷ 0x45 ∷ 0x31 ∷ []
 
--- A start of it for one task, and a begin of operation 0: a point of rest, though the pending operation moves a state of the table.
+-- A start of it for one task, and a begin of operation 0: a point of rest, at which not every pending operation preserves every state
+-- of the table.
 pub record SpareRest : Type 0 where
   pub opening : Opening spareFile 1 0 (startStore spareFile (0 ∷ 0 ∷ []) (idleRow 1))
   pub pends : pending (shown opening .history (Begin 0 0 ∷ [])) 0 ≡ Pends 0 0
   pub rests : Rest (objectIn opening) (shown opening .history (Begin 0 0 ∷ []))
-  pub moved : Preserves spareFile (opening .shape) (λ p. p < opening .shape .states) 0 → ⊥
+  pub moved : AllPreserve spareFile (opening .shape) (λ p. p < opening .shape .states) (shown opening .history (Begin 0 0 ∷ [])) → ⊥

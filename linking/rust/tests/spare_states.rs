@@ -9,8 +9,7 @@ use both::{By, Lent};
 use drive_object::{Progress, Task};
 use random_calls::random_call;
 use reference::random::Random;
-use reference::reach_cases::{moves_unreachable_alone, random_reach_table};
-use reference::table::Table;
+use reference::reach_cases::{moves_unreachable_alone, moving_out_of_reach, random_reach_table};
 use reference::table_file::TableFile;
 
 /// Phases of docs/RECORDS.md: none pending, the one step of a reading operation, the first of a changing one, and no phase.
@@ -57,17 +56,17 @@ fn begin_all(by: By, table: &TableFile, record: Task, otherwise: u8) {
     }
 }
 
-/// The flag; a table of three states with one out of reach, from each start; one of 255 states and 32 operations with most
-/// of them out of reach.
+/// The flag; a table of three states with one out of reach, from each start; one of 254 states and 32 operations with all
+/// but the start out of reach.
 fn tables() -> Vec<TableFile> {
     let from = |start| TableFile {
         start,
         ..TableFile::spare_state()
     };
-    let entries: Vec<(u8, u8)> = (0..255u8)
+    let entries: Vec<(u8, u8)> = (0..254u8)
         .flat_map(|state| (0..32u8).map(move |operation| (state, operation)))
         .collect();
-    let wide = TableFile::plain(255, 32, 7, &entries);
+    let wide = TableFile::plain(254, 32, 7, &entries);
     vec![TableFile::flag(), from(0), from(1), from(2), wide]
 }
 
@@ -134,19 +133,6 @@ const CALLS: usize = 600;
 const FEWEST_TABLES: usize = 200;
 const FEWEST_POINTS: usize = 20_000;
 
-/// The operations that move only states that can't be reached.
-fn moving_out_of_reach(file: &[u8]) -> Vec<u16> {
-    let table = Table::check(file)
-        .expect("an accepted table")
-        .with_changing_noted();
-    let moves = |operation: &usize| (0..table.states).any(|state| table.reply(state, *operation).moved);
-    let operations = (0..table.operations).filter(|&operation| !table.is_changing(operation));
-    operations
-        .filter(moves)
-        .map(|operation| operation as u16)
-        .collect()
-}
-
 /// Makes random calls. At every point at which no changing operation is pending the cells must be an image; at how many of
 /// these such an operation is pending.
 fn run(by: By, table: &TableFile, tasks: usize) -> usize {
@@ -162,7 +148,9 @@ fn run(by: By, table: &TableFile, tasks: usize) -> usize {
         }
         let (head, announcements) = lent.cells.split_first().expect("a head");
         assert_eq!((head & !0xff00, announcements), (0, vec![0; tasks].as_slice()));
-        let moving = |record: &Task| record.phase == READ_ONLY && out_of_reach.contains(&record.operation);
+        let moving = |record: &Task| {
+            record.phase == READ_ONLY && out_of_reach.contains(&usize::from(record.operation))
+        };
         points += usize::from(lent.row.iter().any(moving));
     }
     points

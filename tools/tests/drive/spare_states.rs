@@ -1,4 +1,4 @@
-//! An object with a state that can't be reached from the start, on the table and lines of `crates/listing_spare_state`.
+//! An object with a state that can't be reached from the start, on the table of `crates/listing_spare_state`.
 
 use crate::program::{drive, drive_on};
 use reference::table_file::TableFile;
@@ -27,7 +27,7 @@ fn an_operation_that_moves_only_the_spare_state_is_reading() {
 
 /// From state 2 all three states can be reached, and operation 0 moves that one.
 #[test]
-fn from_the_state_that_was_spare_both_operations_are_changing() {
+fn each_start_decides_which_operations_are_changing() {
     for (start, kinds) in [
         (0, ["reading", "changing"]),
         (1, ["reading", "changing"]),
@@ -54,7 +54,7 @@ fn the_listing_is_told_as_by_the_second_program() {
 
 /// Operation 0 is begun as reading and ends in one step; the announcement is empty all the while.
 #[test]
-fn the_last_lines_tell_of_one_step() {
+fn an_operation_that_moves_only_the_spare_state_has_one_step() {
     let told = drive_on(
         "run",
         &TableFile::spare_state().to_bytes(),
