@@ -1,5 +1,5 @@
 -- Laws of the head: decode after encode and back, injectivity, forms.
-use mathlib.Core.Path.{_≡_, refl}
+use mathlib.Core.Path.{_≡_, refl, ap}
 use mathlib.Core.Bool.{Bool, true, false, _&&_, and-true, and-eq-true-iff}
 use mathlib.Core.List.{List, [], _∷_}
 use Prim.Native.Nat.{ℕ, _+_, _-_, _/_, _%_, _^_, _<_}
@@ -12,9 +12,10 @@ use lib.ListN.{getD}
 use Rattle.laws.proofs.Bits.{bit-read, bit-written}
 use Rattle.cells.specs.Field.{unpack, Fit}
 use Rattle.cells.specs.Form.{holderBound, outcomeInForm, headFieldsInForm, headInForm}
-use Rattle.cells.specs.Layout.{marksWidth, stateWidth, responseWidth, holderWidth, movedWidth, marks, value, headWidths, headValues, headAt, headFrom, headWord, headOf}
+use Rattle.cells.specs.Layout.{marksWidth, stateWidth, responseWidth, holderWidth, movedWidth, marks, value, headWidths, headValues, headAt, headFrom, stateInWord, holderIn, headWord, headOf}
 use Rattle.cells.specs.declared.head.Head.{Head}
 use Rattle.cells.specs.declared.head.Head.the-variants.{Free, Held}
+use Rattle.cells.proofs.Fields.{unpack-pack}
 use Rattle.cells.proofs.Codec.{Codec, content-read, marks-read, word-injective}
 use Rattle.cells.proofs.Forms.{Formed, formed, Shape, written-form, form-whole, form-range}
 
@@ -76,6 +77,14 @@ module _ (x : Head) (m : ℕ) (f : Fit headWidths (headValues x m)) where
   pub head-decode : headOf (headWord x m) ≡ x
   unfolding headOf headWord
   head-decode = content-read head-codec headWidths x m f
+
+  pub head-state : stateInWord (headWord x m) ≡ getD (headValues x m) 1 0
+  unfolding headWord
+  head-state = ap (λ vs. getD vs 1 0) (unpack-pack headWidths (headValues x m) f)
+
+  pub head-holder : holderIn (headWord x m) ≡ getD (headValues x m) 3 0
+  unfolding headWord
+  head-holder = ap (λ vs. getD vs 3 0) (unpack-pack headWidths (headValues x m) f)
 
   pub head-marks : marks (headWord x m) ≡ m
   unfolding headWord unpack

@@ -7,6 +7,7 @@ pub mod AnnouncementLaws
 pub mod WordMarks
 pub mod Linked
 pub mod Images
+pub mod Untraced
 pub mod Counts
 pub mod Ceilings
 pub mod Cases

@@ -1,22 +1,43 @@
--- The theorems about the form of a head: a proof of each statement of specs/Statement.antt.
-use mathlib.Core.Path.{_≡_, refl}
+-- The theorems about the bits of a word and the form of a head: a proof of each statement of specs/Statement.antt.
+use mathlib.Core.Path.{_≡_, refl, ap}
 use mathlib.Core.Bool.{Bool, true, false, _&&_, cond, and-eq-true-iff, not-eq-not}
 use mathlib.Core.Logic.{_↔_}
 use Prim.Native.Nat.{ℕ, _+_, _*_, _/_, _%_, _^_, _≤_}
 use native.Mathlib.Omega.{arith}
 use borrow.Author.Tests.{eqb-true, eq-eqb, ltb-true, lt-ltb, leb-true, le-leb}
 use lib.Dec.{eqb, ltb, leb}
+use lib.ListN.{getD}
 use lib.Pow.{pow-pos}
 use native.Mathlib.Nat.{pow-le-pow-right}
 use Rattle.laws.proofs.Choice.{choice-by}
 use Rattle.laws.proofs.Decision.{same-tests}
 use Rattle.cells.specs.Field.{total}
 use Rattle.cells.specs.Form.{holderBound, outcomeInForm, headFieldsInForm, headInForm}
-use Rattle.cells.specs.Layout.{headWidths}
-use Rattle.cells.specs.Statement.{stateInWord, holderIn, HeadPoints, PointByPoint, HolderIsTask, WithinEight, ForMore, Sharp}
+use Rattle.cells.specs.Layout.{headWidths, announcementWidths, stateInWord, holderIn, hasMark}
+use Rattle.cells.specs.Marks.{has}
+use Rattle.cells.specs.Statement.{ReadInBits, EmptyIsMarks, HeadPoints, PointByPoint, HolderIsTask, WithinEight, ForMore, Sharp}
 use Rattle.cells.proofs.Fields.{unpackAt, unpack-places}
 use Rattle.cells.proofs.Forms.{form-of}
 use Rattle.cells.proofs.HeadLaws.{head-formed, head-range}
+use Rattle.cells.proofs.Untraced.{empty-word}
+
+-- Each field by its place value.
+pub read-in-bits : (w : ℕ) → ReadInBits w
+unfolding unpackAt hasMark has
+read-in-bits w = record {
+  state = ap (λ vs. getD vs 1 0) (unpack-places headWidths w);
+  holder = ap (λ vs. getD vs 3 0) (unpack-places headWidths w);
+  kind = ap (λ vs. getD vs 1 0) (unpack-places announcementWidths w);
+  mark = λ i. below (ltb i 8) (has i w);
+}
+  where
+    below : (b m : Bool) → cond b m false ≡ (b && m)
+    below true m = refl
+    below false m = refl
+
+-- An empty announcement is its marks.
+pub empty-is-marks : (m n w : ℕ) → EmptyIsMarks m n w
+empty-is-marks m n w formed kind = omega (arith, empty-word m n w formed kind)
 
 -- Response and moved are 0 without a holder, and the test says no less.
 outcome-points : (h r v : ℕ) → (outcomeInForm h r v ≡ true) ↔ (h ≡ 0 → (r ≡ 0) × (v ≡ 0))
@@ -31,34 +52,40 @@ pub point-by-point : (s n w : ℕ) → PointByPoint s n w
 unfolding headInForm headFieldsInForm total unpackAt
 point-by-point s n w = (points, holds)
   where
+    state : ℕ
+    state = w / 256 % 256
+
+    holder : ℕ
+    holder = w / 16777216 % 16
+
     outcome : Bool
-    outcome = outcomeInForm (holderIn w) (w / 65536 % 256) (w / 268435456 % 2)
+    outcome = outcomeInForm holder (w / 65536 % 256) (w / 268435456 % 2)
 
     points : headInForm s n w ≡ true → HeadPoints s n w
     points e =
         let f = head-formed s n w e in
         let t = rw (unpack-places headWidths w) at (f .passed) in
-        let first = and-eq-true-iff (ltb (stateInWord w) s) (leb (holderIn w) (holderBound n) && outcome) .0 t in
-        let second = and-eq-true-iff (leb (holderIn w) (holderBound n)) outcome .0 (first .1) in
-        let bounded : holderIn w ≤ holderBound n = leb-true (holderIn w) (holderBound n) (second .0) in
+        let first = and-eq-true-iff (ltb state s) (leb holder (holderBound n) && outcome) .0 t in
+        let second = and-eq-true-iff (leb holder (holderBound n)) outcome .0 (first .1) in
+        let bounded : holder ≤ holderBound n = leb-true holder (holderBound n) (second .0) in
         record {
           named = f .small;
           marked = f .few;
-          state = ltb-true (stateInWord w) s (first .0);
-          holder = omega (arith, bounded);
-          most = omega (arith, bounded);
-          free = outcome-points (holderIn w) (w / 65536 % 256) (w / 268435456 % 2) .0 (second .1);
+          state = rw (read-in-bits w .state) (ltb-true state s (first .0));
+          holder = omega (arith, bounded, read-in-bits w .holder);
+          most = omega (arith, bounded, read-in-bits w .holder);
+          free = rw (read-in-bits w .holder) (outcome-points holder (w / 65536 % 256) (w / 268435456 % 2) .0 (second .1));
         }
 
     holds : HeadPoints s n w → headInForm s n w ≡ true
     holds p =
-        let bounded : holderIn w ≤ holderBound n = omega (arith, p .holder, p .most) in
-        let kept = outcome-points (holderIn w) (w / 65536 % 256) (w / 268435456 % 2) .1 (p .free) in
+        let bounded : holder ≤ holderBound n = omega (arith, p .holder, p .most, read-in-bits w .holder) in
+        let kept = outcome-points holder (w / 65536 % 256) (w / 268435456 % 2) .1 (rw (read-in-bits w .holder) at (p .free)) in
         form-of headWidths (headFieldsInForm s n) n w
         (record {
           small = p .named;
           few = p .marked;
-          passed = rw (unpack-places headWidths w) (rw (lt-ltb (stateInWord w) s (p .state), le-leb (holderIn w) (holderBound n) bounded, kept));
+          passed = rw (unpack-places headWidths w) (rw (lt-ltb state s (rw (read-in-bits w .state) at (p .state)), le-leb holder (holderBound n) bounded, kept));
         })
 
 -- The holder of a head in form is a task.
@@ -77,16 +104,22 @@ for-more s n k w more e =
 
 pub sharp : (s n : ℕ) → Sharp s n
 sharp s n some few = (
-  point-by-point s (n + 1) ((n + 1) * 16777216) .1 (record {
+  point-by-point s (n + 1) w .1 (record {
     named = omega (arith, few);
     marked = omega (arith, pow-pos (n + 1));
-    state = omega (arith, some);
-    holder = omega (arith, few);
-    most = omega (arith, few);
-    free = λ z. absurd (omega (arith, few));
+    state = omega (arith, some, bits .state);
+    holder = omega (arith, few, bits .holder);
+    most = omega (arith, few, bits .holder);
+    free = λ z. absurd (omega (arith, few, bits .holder));
   }),
-  not-eq-not {b = false} .0 (λ e. omega (arith, few, point-by-point s n ((n + 1) * 16777216) .0 e .holder)),
+  not-eq-not {b = false} .0 (λ e. omega (arith, few, bits .holder, point-by-point s n w .0 e .holder)),
 )
+  where
+    w : ℕ
+    w = (n + 1) * 16777216
+
+    bits : ReadInBits w
+    bits = read-in-bits w
 
 -- With at most 8 tasks: the form for 8, with marks and holder of tasks below n.
 pub within-eight : (s n w : ℕ) → WithinEight s n w

@@ -1,13 +1,17 @@
 -- What the marks of a cell are, for every task number.
-use mathlib.Core.Path.{_≡_, refl}
+use mathlib.Core.Path.{_≡_, refl, sym, _∙_}
 use mathlib.Core.Bool.{Bool, true, false, cond}
 use Prim.Native.Nat.{ℕ, _+_, _-_, _^_, _<_, _≤_}
+use native.Mathlib.Decide.{decLt}
+use native.Mathlib.Nat.{pow-le-pow-right}
 use native.Mathlib.Omega.{arith}
-use borrow.Author.Tests.{ltb-true, lt-ltb}
+use borrow.Author.Tests.{ltb-true, lt-ltb, le-ltb}
 use lib.Dec.{ltb}
+use Rattle.laws.proofs.Choice.{choice}
+use Rattle.laws.proofs.Clash.{clash}
 use Rattle.cells.specs.Layout.{marksWidth, value, marks, markOf, hasMark, addMark, removeMark}
-use Rattle.cells.specs.Marks.{has, add, remove}
-use Rattle.cells.proofs.MarkLaws.{SetsBit, place-below, set-high, set-low, add-below}
+use Rattle.cells.specs.Marks.{none, has, add, remove}
+use Rattle.cells.proofs.MarkLaws.{SetsBit, place-below, has-none, none-has, has-low, set-high, set-low, add-below}
 
 -- A task below the marks' width has the marks that the laws of `MarkLaws` speak of.
 module _ (i w : ℕ) (h : i < marksWidth) where
@@ -22,6 +26,27 @@ module _ (i w : ℕ) (h : i < marksWidth) where
   pub remove-mark : removeMark i w ≡ remove i w
   unfolding removeMark
   remove-mark = simp (lt-ltb i marksWidth h)
+
+-- A task beyond the marks' width has none.
+pub no-mark : (i w : ℕ) → marksWidth ≤ i → hasMark i w ≡ false
+unfolding hasMark
+no-mark i w h = simp (le-ltb i marksWidth h)
+
+-- The word 0 has none.
+pub zero-mark : (i : ℕ) → hasMark i 0 ≡ false
+unfolding hasMark
+zero-mark i = choice (λ (b : Bool). b ≡ false) (ltb i marksWidth) (has i none) false (has-none i) refl
+
+-- A word that shows no mark has none.
+pub marks-none : (w : ℕ) → ((i : ℕ) → hasMark i w ≡ false) → marks w ≡ none
+marks-none w unseen = none-has (marks w) (λ i e. by i e (decLt i marksWidth))
+  where
+    by : (i : ℕ) → has i (marks w) ≡ true → Dec (i < marksWidth) → ⊥
+    by i e (yes few) = clash (sym (has-low i marksWidth w few) ∙ e) (sym (has-mark i w few) ∙ unseen i)
+    by i e (no beyond) =
+        let past : marksWidth ≤ i = omega (arith, beyond) in
+        let wide : 2 ^ marksWidth ≤ 2 ^ i = pow-le-pow-right (omega arith) past in
+        omega (arith, wide, place-below i (marks w) e)
 
 -- Link and release by the place value of the mark.
 module _ (i w : ℕ) where

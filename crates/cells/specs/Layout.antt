@@ -82,6 +82,14 @@ headAt q r h v = cond (eqb h 0) (Free q) (Held q (h - 1) r (eqb v 1))
 abbrev pub headFrom : List ℕ → Head
 headFrom vs = headAt (getD vs 1 0) (getD vs 2 0) (getD vs 3 0) (getD vs 4 0)
 
+-- The state that a word's field holds.
+abbrev pub stateInWord : ℕ → ℕ
+stateInWord w = getD (unpack headWidths w) 1 0
+
+-- The holder's number that a word's field holds: 0 for none, else the task's number plus 1.
+abbrev pub holderIn : ℕ → ℕ
+holderIn w = getD (unpack headWidths w) 3 0
+
 -- The word of a head with these marks.
 unfoldable pub headWord : Head → ℕ → ℕ
 headWord x m = pack headWidths (headValues x m)

@@ -1,27 +1,32 @@
--- docs/FORMATS.md, "The cells": what is proved of the form of a head, with s states and n tasks, and when a cell is in form; the
--- proofs are in proofs/Theorem.antt. docs/RUNS.md: what is proved of the ceiling; the proofs are in proofs/Ceilings.antt.
+-- docs/FORMATS.md, "The cells": which bits a print is read by, what is proved of the form of a head, with s states and n tasks, and
+-- when a cell is in form; the proofs are in proofs/Theorem.antt. docs/RUNS.md: what is proved of the ceiling; the proofs are in
+-- proofs/Ceilings.antt.
 use mathlib.Core.Path.{_≡_}
 use mathlib.Core.Bool.{Bool, true, false, _&&_}
 use mathlib.Core.Logic.{_↔_}
 use mathlib.Core.List.{[], _∷_}
 use Prim.Native.Nat.{ℕ, _+_, _*_, _/_, _%_, _^_, _<_, _≤_}
-use lib.Dec.{ltb, leb}
+use lib.Dec.{eqb, ltb, leb}
 use Rattle.refusal.specs.Number.{accepted, refusedBy}
 use Rattle.cells.specs.Ceiling.{ceilingOf, ceilingSaid, greatestCeiling, listedCeiling}
 use Rattle.cells.specs.Form.{headInForm, announcementInForm}
-use Rattle.cells.specs.Layout.{headOf}
+use Rattle.cells.specs.Layout.{hasMark, stateInWord, holderIn, kindIn, headOf}
 use Rattle.cells.specs.declared.head.Head.the-variants.{Held}
 
 -- The place values are written as numbers: 256 for bit 8, 65536 for bit 16, 16777216 for bit 24, 268435456 for bit 28, and 536870912
 -- for bit 29.
 
--- The number in bits 8 to 15.
-abbrev pub stateInWord : ℕ → ℕ
-stateInWord w = w / 256 % 256
+-- The fields by which a print is read: the state is bits 8 to 15 of a head, the holder's number bits 24 to 27; the kind is bits 8
+-- and 9 of an announcement; and bit i of either, for i up to 7, is the mark of task i. There are no other marks.
+pub record ReadInBits (w : ℕ) : Type 0 where
+  pub state : stateInWord w ≡ w / 256 % 256
+  pub holder : holderIn w ≡ w / 16777216 % 16
+  pub kind : kindIn w ≡ w / 256 % 4
+  pub mark : (i : ℕ) → hasMark i w ≡ (ltb i 8 && eqb (w / 2 ^ i % 2) 1)
 
--- The number in bits 24 to 27.
-abbrev pub holderIn : ℕ → ℕ
-holderIn w = w / 16777216 % 16
+-- An announcement in form whose kind is 0 has marks and nothing else.
+abbrev pub EmptyIsMarks : (m n w : ℕ) → Type 0
+EmptyIsMarks m n w = announcementInForm m n w ≡ true → kindIn w ≡ 0 → w < 256
 
 -- What a head has to keep: its rows in docs/FORMATS.md, and a holder of at most 8, which follows for n up to 8.
 pub record HeadPoints (s n w : ℕ) : Type 0 where

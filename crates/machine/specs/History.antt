@@ -1,6 +1,6 @@
 -- What is said of a history, a list of calls with their answers: pending operations, points of rest, and linearizability.
 use mathlib.Core.Path.{_≡_}
-use mathlib.Core.Bool.{false, cond}
+use mathlib.Core.Bool.{true, false, cond}
 use mathlib.Core.List.{List, [], _∷_}
 use Prim.Native.Nat.{ℕ, zero, suc, _<_}
 use lib.Dec.{eqb}
@@ -43,10 +43,15 @@ pendingFrom t p (e ∷ es) = pendingFrom t (heard t (e .call) (e .answer) p) es
 abbrev pub pending : List Event → ℕ → Pending
 pending es t = pendingFrom t Nothing es
 
--- The pending operation, if any, is reading.
+-- No changing operation is pending: none at all, or a reading one.
 abbrev pub Reads : Object → Pending → Type 0
 Reads b Nothing = Unit {0}
 Reads b (Pends o s) = b .changing o ≡ false
+
+-- A changing operation is pending.
+abbrev pub Changes : Object → Pending → Type 0
+Changes b Nothing = ⊥
+Changes b (Pends o s) = b .changing o ≡ true
 
 -- A point of rest: no changing operation is pending.
 abbrev pub Rest : Object → List Event → Type 0

@@ -21,7 +21,7 @@ use Rattle.machine.specs.History.{Pends, pending}
 use Rattle.machine.specs.Demand.{Shown, Demand}
 use Rattle.machine.specs.Ending.{EndsChanging}
 use Rattle.machine.specs.Invariant.{content}
-use Rattle.machine.specs.Points.{nextAccess}
+use Rattle.machine.specs.Points.{MidWork, nextAccess}
 use Rattle.machine.proofs.Steps.Calls.{Serving, begins, begin-task, begin-operation, begin-pending, moves, step-task, step-idle, serving}
 use Rattle.machine.proofs.Points.Emptied.{emptyings}
 use Rattle.machine.proofs.Invariant.Ranges.{formed-run}
@@ -35,10 +35,12 @@ use Rattle.stepping.specs.Call.{taskAt}
 use Rattle.stepping.specs.Access.{accessOf}
 use Rattle.stepping.specs.Runs.{Store, CallOutcome, serveOf, runOf, historyOf}
 use Rattle.stepping.specs.Opening.{Opening, objectIn, shown}
+use Rattle.stepping.specs.Print.{Print}
 use Rattle.stepping.specs.Statement.{FitsTable, recordAfter, InFormThroughout, EmptyAt, Emptied}
 use Rattle.stepping.specs.Encoding.{encodeCells, encodeRow, encodeConfig}
 use Rattle.stepping.proofs.Admission.{ceiling}
 use Rattle.stepping.proofs.Accesses.{cells-length, encoded-empty, encoded-in-form}
+use Rattle.stepping.proofs.Prints.{encoded-print}
 use Rattle.stepping.proofs.Simulation.{InRange, record-fits, serve-simulates, run-simulates, history-simulates, access-simulates}
 use Rattle.stepping.proofs.Starts.{start-cells, start-row}
 
@@ -123,7 +125,8 @@ module _ {file : List ℕ} {n q : ℕ} {s : Store} (o : Opening file n q s) wher
   }
 
   -- Demands 2 and 3, with any bound that the proved one doesn't pass.
-  unfoldable pub encoded-demands : (c : ℕ) → Demand (objectIn o) n q c image (machineShows (objectIn o) n q) → Demand (objectIn o) n q c (words.image n) encodedShows
+  unfoldable pub encoded-demands : (c : ℕ) → Demand (objectIn o) n q c image (MidWork (objectIn o) q) (machineShows (objectIn o) n q)
+      → Demand (objectIn o) n q c (words.image n) (Print (objectIn o) n q) encodedShows
   encoded-demands c d = record {
     begins = d .begins;
     told = d .told;
@@ -133,6 +136,7 @@ module _ {file : List ℕ} {n q : ℕ} {s : Store} (o : Opening file n q s) wher
     grows = d .grows;
     linearizes = d .linearizes;
     rest = λ xs r. ap (encodeCells n) (d .rest xs r) ∙ sym (start-cells n (d .book xs .state));
+    prints = λ xs. encoded-print file (o .shape) (o .table) n (o .few) (machineRun xs .memory) (in-range xs .formed .memory) q _ _ (d .prints xs);
     accepted = d .accepted;
     below = d .below;
     count = d .count;

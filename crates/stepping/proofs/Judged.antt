@@ -12,7 +12,7 @@ use Rattle.laws.proofs.Choice.{choice}
 use Rattle.laws.proofs.Clash.{never}
 use Rattle.refusal.specs.declared.Refusal.the-variants as cause
 use Rattle.cells.specs.Form.{headInForm}
-use Rattle.cells.specs.Statement.{holderIn}
+use Rattle.cells.specs.Layout.{holderIn}
 use Rattle.cells.proofs.Theorem.{point-by-point}
 use Rattle.table.specs.declared.Shape.{Shape}
 use Rattle.table.specs.File.{shapeOf}

@@ -14,6 +14,7 @@ pub mod Planned
 pub mod Advances
 pub mod Simulation
 pub mod Starts
+pub mod Prints
 pub mod Demands
 pub mod Continued
 pub mod Outcomes

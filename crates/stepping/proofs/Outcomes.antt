@@ -33,6 +33,7 @@ use Rattle.transition.proofs.EncodedCells.{head-same-value, content-same-value,
 use Rattle.stepping.specs.Runs.{Store}
 use Rattle.stepping.specs.Encoding.{encodeCells}
 use Rattle.stepping.specs.Opening.{Opening, objectIn, shown}
+use Rattle.stepping.specs.Print.{Print}
 use Rattle.stepping.specs.Statement.{Demands, DemandsWithin, EntryUsed, Answered, CarriedFor, in-head, in-announcement, CarriedAlong}
 use Rattle.stepping.proofs.Accesses.{cells-length, cell-at}
 use Rattle.stepping.proofs.Demands.{machineRun, opens, in-range, encodedShows, shown-same, encoded-demands}
@@ -89,7 +90,7 @@ module _ {file : List ℕ} {n q : ℕ} {s : Store} (o : Opening file n q s) wher
   pub met : (c : ℕ) → bound n ≤ c → (d : DemandsWithin c o) × CarriedAlong file (o .shape) q (shown o) (d .book)
   unfolding encoded-demands demand
   met c h =
-      subst (λ (run : Shown (List ℕ)). (d : Demand (objectIn o) n q c (image n) run) × CarriedAlong file (o .shape) q run (d .book)) (sym (shown-same o))
+      subst (λ (run : Shown (List ℕ)). (d : Demand (objectIn o) n q c (image n) (Print (objectIn o) n q) run) × CarriedAlong file (o .shape) q run (d .book)) (sym (shown-same o))
       (encoded-demands o c (demand (objectIn o) n q (opens o) c h), encoded-carried)
 
   -- A reading operation finds a state that it doesn't move.

@@ -16,8 +16,7 @@ use Rattle.laws.proofs.Clash.{clash}
 use Rattle.cells.specs.Ceiling.{ceilingOf}
 use Rattle.cells.specs.Field.{unpack}
 use Rattle.cells.specs.Image.{image}
-use Rattle.cells.specs.Layout.{headWidths, headAt, headOf}
-use Rattle.cells.specs.Statement.{stateInWord}
+use Rattle.cells.specs.Layout.{headWidths, headAt, stateInWord, headOf}
 use Rattle.cells.specs.declared.head.Head.{Head}
 use Rattle.table.specs.declared.Shape.{Shape}
 use Rattle.table.specs.declared.Checked.the-variants as table
@@ -41,14 +40,13 @@ use Rattle.records.specs.Phase.{phaseOf}
 use Rattle.records.specs.Record.{idleInForm, recordInForm, readRecord}
 use Rattle.records.proofs.Forms.{read-parts}
 use Rattle.transition.specs.Transition.{stateIn, planOf, nextOf}
-use Rattle.transition.specs.Encoding.{encodeHead}
-use Rattle.transition.proofs.Plans.{head-state}
+use Rattle.transition.proofs.EncodedCells.{state-seen}
 use Rattle.stepping.specs.Step.{cellInForm, performOf}
 use Rattle.stepping.specs.Call.{idleRow, startOf, admitStartOf, admitOf, beginTask, beginOf}
 use Rattle.stepping.specs.Runs.{Store, serveOf}
 use Rattle.stepping.specs.Opening.{Opening, objectIn, shown, startStore}
 use Rattle.stepping.specs.Statement.{Demands}
-use Rattle.stepping.specs.Reading.{Preserves, BeginLeaves, BeginJudges, ReadingAnswers, Reaches, EndsAtOnce, RestExactly, RestImage, RestKept, spareFile, SpareRest}
+use Rattle.stepping.specs.Reading.{Preserves, BeginLeaves, BeginJudges, ReadingAnswers, Reaches, EndsAtOnce, QuietExactly, RestExactly, RestImage, RestKept, spareFile, SpareRest}
 use Rattle.stepping.proofs.Admission.{ceiling}
 use Rattle.stepping.proofs.Judged.{step-touches}
 use Rattle.stepping.proofs.Entries.{begun-accepted, begun-task}
@@ -104,21 +102,23 @@ module _ {file : List ℕ} {n q : ℕ} {s : Store} (o : Opening file n q s) wher
   pub reaches : Reaches o
   reaches xs =
       let h = machineRun o xs .memory .head in
-      let read = head-state file (o .shape) (o .table) n (o .few) h (in-range o xs .formed .memory .head) in
-      rw (run-opened o xs, ← state-in-word (encodeHead h), read) (head-reachable o xs)
+      rw (run-opened o xs, state-seen file (o .shape) (o .table) n (o .few) h (in-range o xs .formed .memory .head)) (head-reachable o xs)
 
   exactly : (x : ℕ) → ChangingExactly file (o .shape) x
   exactly = accepted-changing file (o .shape) (o .table .accepted)
 
-  reads : (p : Pending) → ((x k : ℕ) → p ≡ Pends x k → Preserves file (o .shape) (Reachable file (o .shape)) x) → Reads (objectIn o) p
-  reads Nothing keeps = tt
-  reads (Pends x k) keeps = exactly x .reads .1 (keeps x k refl)
+  pub quiet-exactly : QuietExactly o
+  quiet-exactly xs t = (
+    λ quiet x k e. exactly x .reads .0 (subst (Reads (objectIn o)) e quiet),
+    reads (pending (shown o .history xs) t),
+  )
+    where
+      reads : (p : Pending) → ((x k : ℕ) → p ≡ Pends x k → Preserves file (o .shape) (Reachable file (o .shape)) x) → Reads (objectIn o) p
+      reads Nothing keeps = tt
+      reads (Pends x k) keeps = exactly x .reads .1 (keeps x k refl)
 
   pub rest-exactly : RestExactly o
-  rest-exactly xs = (
-    λ rests t x k e. exactly x .reads .0 (subst (Reads (objectIn o)) e (rests t)),
-    λ keeps t. reads (pending (shown o .history xs) t) (keeps t),
-  )
+  rest-exactly xs = (λ rests t. quiet-exactly xs t .0 (rests t), λ keeps t. quiet-exactly xs t .1 (keeps t))
 
   pub rest-kept : RestKept o
   rest-kept xs keeps = rest-exactly xs .1 (λ t x k e p r. keeps t x k e p (accepted-states file (o .shape) (o .table .accepted) .below p r))

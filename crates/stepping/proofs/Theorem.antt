@@ -13,6 +13,7 @@ use Rattle.machine.specs.Calls.{Step, Ended}
 use Rattle.machine.specs.Keeping.{bookOf}
 use Rattle.machine.specs.History.{Pends, pending}
 use Rattle.machine.proofs.Points.OwnSteps.{next-step}
+use Rattle.machine.proofs.Whole.Books.{state-replayed}
 use Rattle.machine.proofs.Whole.WaitFree.{bound-ceiling}
 use Rattle.records.specs.declared.record.Task.{Task}
 use Rattle.transition.specs.Encoding.{encodeAccess}
@@ -22,10 +23,11 @@ use Rattle.stepping.specs.Call.{StartOutcome, startOf, admitStartOf, beg
 use Rattle.stepping.specs.Runs.{Store}
 use Rattle.stepping.specs.Opening.{Opening, objectIn}
 use Rattle.stepping.specs.Lent.{Places}
-use Rattle.stepping.specs.Statement.{MakesAccess, FollowsResult, Local, OneCell, BeginByRecord, StepByRecord, StartUnchanged, BeginUnchanged, StepUnchanged, BeginRecordUnchanged, StepRecordUnchanged, StartTableRefused, BeginTableRefused, StepTableRefused, StartRowJudged, BeginRowJudged, StepRowJudged, BeginEntriesJudged, RecordJudged, BeginRecordJudged, CellJudged, HolderAbove, SavedHolderAbove, BeginHolderAbove, HeadsInForm, KeepsForm, LeavesInForm, Startable, StartOpens, Demands, SharperDemands, Independent, Answered, Carried, InFormThroughout, Refusals, Endings, Emptied, Between, OpensNext}
+use Rattle.stepping.specs.Statement.{MakesAccess, FollowsResult, Local, OneCell, BeginByRecord, StepByRecord, StartUnchanged, BeginUnchanged, StepUnchanged, BeginRecordUnchanged, StepRecordUnchanged, StartTableRefused, BeginTableRefused, StepTableRefused, StartRowJudged, BeginRowJudged, StepRowJudged, BeginEntriesJudged, RecordJudged, BeginRecordJudged, CellJudged, HolderAbove, SavedHolderAbove, BeginHolderAbove, HeadsInForm, KeepsForm, LeavesInForm, Startable, StartOpens, Demands, SharperDemands, Independent, Answered, Carried, Prints, ShownChanges, StateReached, InFormThroughout, Refusals, Endings, Emptied, Between, OpensNext}
 use Rattle.stepping.proofs.Between.{between, opens-next}
 use Rattle.stepping.proofs.Demands.{opens, points-in-form, history-opened, answer-opened, access-opened, refused-opened, emptied}
 use Rattle.stepping.proofs.Outcomes.{answered, met, unmoved}
+use Rattle.stepping.proofs.Prints.{shown-changes}
 use Rattle.stepping.proofs.Forms.{heads-in-form, keeps-form, leaves-in-form}
 use Rattle.stepping.proofs.Judged.{record-judged, begin-record-judged, cell-judged, holder-above, saved-holder-above, begin-holder-above}
 use Rattle.stepping.proofs.Rows.{start-row-judged, begin-row-judged, step-row-judged}
@@ -161,6 +163,16 @@ module _ {file : List ℕ} {n q : ℕ} {s : Store} (o : Opening file n q s) wher
   pub carried-known : Carried o demands-met
   unfolding demands-met
   carried-known = met o (1000 * (n * n * n)) (bound-ceiling n (o .some)) .1
+
+  -- What a print tells, at every point and of the one book of the demands.
+  pub prints : (d : Demands o) → Prints o d
+  prints d = d .prints
+
+  pub changes-shown : ShownChanges o
+  changes-shown xs t z = shown-changes (objectIn o) n q _ _ _ (demands-met .prints xs) t z
+
+  pub state-reached : (d : Demands o) → StateReached o d
+  state-reached d xs = let replayed = state-replayed d xs in (replayed, d .prints xs .state ∙ sym replayed)
 
   pub in-form-throughout : InFormThroughout o
   in-form-throughout = points-in-form o

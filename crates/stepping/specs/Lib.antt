@@ -3,6 +3,7 @@ pub mod Call
 pub mod Access
 pub mod Runs
 pub mod Opening
+pub mod Print
 pub mod Lent
 pub mod Statement
 pub mod Reading

@@ -10,8 +10,8 @@ use Rattle.refusal.specs.declared.Refusal.{Refusal}
 use Rattle.refusal.specs.Number.{numberOf, refusedBy, refused}
 use Rattle.cells.specs.Form.{headInForm, cellsInForm}
 use Rattle.cells.specs.Image.{image}
-use Rattle.cells.specs.Layout.{kindIn, headOf, announcementOf}
-use Rattle.cells.specs.Statement.{holderIn, CellFits}
+use Rattle.cells.specs.Layout.{stateInWord, holderIn, kindIn, headOf, announcementOf}
+use Rattle.cells.specs.Statement.{CellFits}
 use Rattle.cells.specs.declared.head.Head.the-variants as head
 use Rattle.cells.specs.declared.announcement.Announcement.the-variants as content
 use Rattle.table.specs.declared.Shape.{Shape}
@@ -26,7 +26,7 @@ use Rattle.reach.specs.Changing.{changing}
 use Rattle.machine.specs.Outcome.{Outcome}
 use Rattle.machine.specs.Calls.{Call, Step, Ended, Refused, Event}
 use Rattle.machine.specs.Book.{Operation, Book}
-use Rattle.machine.specs.History.{Pends, pending, Rest, Begins, Ends, Open, reached}
+use Rattle.machine.specs.History.{Pends, pending, Changes, Rest, Begins, Ends, Open, reached}
 use Rattle.machine.specs.Demand.{Shown, Demand}
 use Rattle.machine.specs.Ending.{Emptyings}
 use Rattle.records.specs.declared.record.Task.{Task}
@@ -42,6 +42,7 @@ use Rattle.stepping.specs.Call.{startSaid, beginSaid, stepSaid, startOf,
 use Rattle.stepping.specs.Access.{accessOf, givenBack}
 use Rattle.stepping.specs.Runs.{Store, runOf}
 use Rattle.stepping.specs.Opening.{Opening, objectIn, shown, startStore}
+use Rattle.stepping.specs.Print.{Print, Shows}
 use Rattle.stepping.specs.Lent.{Memory, Places, storeAt, LentCall, LentStart, RunOpened, serveLent, Around, SameRun}
 
 -- ---- The access rule, for all arguments
@@ -259,10 +260,10 @@ abbrev pub StartOpens : (file cells : List ℕ) → List Task → Type 0
 StartOpens file cells row =
     Bytes file → startOf file cells row .answer ≡ start.Started → Opening file (length row) (shapeOf file .start) (startStore file cells row)
 
--- ---- Demands 2 and 3 as one statement: the plain book, linearizability, the image at rest, a bound of own steps
+-- ---- Demands 2 and 3 as one statement: the plain book, linearizability, the image at rest, prints at work, a bound of own steps
 
 abbrev pub DemandsWithin : ℕ → {file : List ℕ} {n q : ℕ} {s : Store} → Opening file n q s → Type 0
-DemandsWithin bound {n = n} {q = q} o = Demand (objectIn o) n q bound (image n) (shown o)
+DemandsWithin bound {n = n} {q = q} o = Demand (objectIn o) n q bound (image n) (Print (objectIn o) n q) (shown o)
 
 -- With the ceiling of docs/RUNS.md, 1,000·n³.
 abbrev pub Demands : {file : List ℕ} {n q : ℕ} {s : Store} → Opening file n q s → Type 0
@@ -310,6 +311,19 @@ abbrev pub Carried : {file : List ℕ} {n q : ℕ} {s : Store} (o : Opening file
 Carried {file} {q = q} o d = CarriedAlong file (o .shape) q (shown o) (d .book)
 
 -- ---- Every point of a run
+
+-- What a print tells, after the opening and after each call, a refused one too: over the one book of the demands.
+abbrev pub Prints : {file : List ℕ} {n q : ℕ} {s : Store} (o : Opening file n q s) → Demands o → Type 0
+Prints {n = n} {q = q} o d = (xs : List Call) → Print (objectIn o) n q (shown o .cells xs) (shown o .history xs) (d .book xs .order)
+
+-- So a task that the cells show, by its announcement, a mark or the holder, has a changing operation pending.
+abbrev pub ShownChanges : {file : List ℕ} {n q : ℕ} {s : Store} → Opening file n q s → Type 0
+ShownChanges {n = n} o = (xs : List Call) (t : ℕ) → Shows n (shown o .cells xs) t → Changes (objectIn o) (pending (shown o .history xs) t)
+
+-- The book's state is the one that its order has reached, and the head shows it.
+abbrev pub StateReached : {file : List ℕ} {n q : ℕ} {s : Store} (o : Opening file n q s) → Demands o → Type 0
+StateReached {q = q} o d =
+    (xs : List Call) → (d .book xs .state ≡ reached (objectIn o) q (d .book xs .order)) × (stateInWord (getD (shown o .cells xs) 0 0) ≡ d .book xs .state)
 
 -- The task's record after a list of calls.
 abbrev pub recordAfter : {file : List ℕ} {n q : ℕ} {s : Store} → Opening file n q s → List Call → ℕ → Task

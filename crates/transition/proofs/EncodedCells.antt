@@ -4,6 +4,7 @@ use mathlib.Core.Bool.{true, _&&_}
 use mathlib.Core.Logic.{_↔_}
 use mathlib.Core.List.{List}
 use Prim.Native.Nat.{ℕ, _+_, _*_, _^_, _<_, _≤_}
+use native.Mathlib.Decide.{decLt}
 use native.Mathlib.Nat.{pow-le-pow-right}
 use native.Mathlib.Omega.{arith}
 use borrow.Author.Tests.{lt-ltb, eq-eqb, ne-eqb}
@@ -11,14 +12,15 @@ use lib.Dec.{eqb, ltb}
 use lib.ListN.{getD}
 use Rattle.laws.specs.Decision.{decided}
 use Rattle.laws.proofs.Bits.{bit-below}
+use Rattle.laws.proofs.Clash.{clash}
 use Rattle.cells.specs.Field.{pack, Fit}
 use Rattle.cells.specs.Form.{holderBound, headInForm, announcementInForm}
-use Rattle.cells.specs.Layout.{marksWidth, marks, value, hasMark, addMark, removeMark, headWidths, headValues, headWord, headOf, announcementWidths, announcementValues, announcementWord, announcementOf, kindIn}
+use Rattle.cells.specs.Layout.{marksWidth, marks, value, hasMark, addMark, removeMark, headWidths, headValues, headWord, headOf, stateInWord, holderIn, announcementWidths, announcementValues, announcementWord, announcementOf, kindIn}
 use Rattle.cells.specs.Marks.{has, add, remove}
 use Rattle.cells.proofs.MarkLaws.{SetsBit, adds, removes, set-below, has-low}
-use Rattle.cells.proofs.HeadLaws.{headInRange, head-decode, head-marks, head-injective, head-form}
+use Rattle.cells.proofs.HeadLaws.{headInRange, head-decode, head-state, head-holder, head-marks, head-injective, head-form}
 use Rattle.cells.proofs.AnnouncementLaws.{announcementInRange, announcement-decode, announcement-kind, announcement-marks, announcement-injective, announcement-form}
-use Rattle.cells.proofs.WordMarks.{has-mark, add-mark, remove-mark, set-value, set-marks}
+use Rattle.cells.proofs.WordMarks.{has-mark, no-mark, add-mark, remove-mark, set-value, set-marks}
 use Rattle.table.specs.declared.Shape.{Shape}
 use Rattle.table.proofs.Fitting.{Fitting}
 use Rattle.table.proofs.Accepted.{accepted-fitting}
@@ -62,6 +64,14 @@ module _ {A : Type 0} {n : ℕ} {Ranged : A → Type 0} {word : A → ℕ → �
 
     cell-released : removeMark i (word (c .value) (c .marks)) ≡ word (c .value) (remove i (c .marks))
     cell-released = remove-mark i _ few ∙ coding .sets removes i few _ _ (coding .few _ (ranged .marks))
+
+  -- A mark that is seen in the word, of whatever task, stands in the cell.
+  cell-mark : (i : ℕ) → hasMark i (word (c .value) (c .marks)) ≡ true → has i (c .marks) ≡ true
+  cell-mark i e = by (decLt i marksWidth)
+    where
+      by : Dec (i < marksWidth) → has i (c .marks) ≡ true
+      by (yes few) = sym (cell-has i few) ∙ e
+      by (no beyond) = clash e (no-mark i _ (omega (arith, beyond)))
 
   -- Two words are equal exactly if the cells are: a swap compares the one or the other.
   cell-same : (g : Cell A) → CellFormed n Ranged g → (d : Dec (c ≡ g)) → eqb (word (c .value) (c .marks)) (word (g .value) (g .marks)) ≡ decided d
@@ -168,6 +178,24 @@ module _ (file : List ℕ) (shape : Shape) (table : ObjectTable file shape) (n :
     pub head-read : headOf (encodeHead h) ≡ headIn (h .value)
     head-read = head-decode (headIn (h .value)) (h .marks) (head-fits (h .value) (h .marks) (ranged .value) (ranged .marks))
 
+    -- The state in its word, and the holder: a number j + 1 is that of task j.
+    pub state-seen : stateInWord (encodeHead h) ≡ stateOf (h .value)
+    state-seen = head-state (headIn (h .value)) (h .marks) (head-fits (h .value) (h .marks) (ranged .value) (ranged .marks)) ∙ by (h .value)
+      where
+        by : (v : HeadValue) → getD (headValues (headIn v) (h .marks)) 1 0 ≡ stateOf v
+        by (Free q) = refl
+        by (Held q j r) = refl
+
+    pub holder-seen : (j : ℕ) → holderIn (encodeHead h) ≡ j + 1 → (q : ℕ) × (r : Outcome) × (h .value ≡ Held q j r)
+    holder-seen j e = by (h .value) (sym (head-holder (headIn (h .value)) (h .marks) (head-fits (h .value) (h .marks) (ranged .value) (ranged .marks))) ∙ e)
+      where
+        by : (v : HeadValue) → getD (headValues (headIn v) (h .marks)) 3 0 ≡ j + 1 → (q : ℕ) × (r : Outcome) × (v ≡ Held q j r)
+        by (Free q) f = absurd (omega (arith, f))
+        by (Held q k r) f = let same : k ≡ j = omega (arith, f) in (q, r, ap (λ x. Held q x r) same)
+
+    pub head-mark : (i : ℕ) → hasMark i (encodeHead h) ≡ true → has i (h .marks) ≡ true
+    head-mark = cell-mark head-coding h ranged
+
     pub head-has : (i : ℕ) → i < n → hasMark i (encodeHead h) ≡ has i (h .marks)
     head-has i below = cell-has head-coding h ranged i (omega arith)
 
@@ -200,6 +228,9 @@ module _ (file : List ℕ) (shape : Shape) (table : ObjectTable file shape) (n :
         by Empty e = (λ _. refl, λ _. e)
         by (Op o) e = (λ z. absurd (omega arith), λ z. cc)
         by (Resp r) e = (λ z. absurd (omega arith), λ z. cc)
+
+    pub announcement-mark : (i : ℕ) → hasMark i (encodeAnnouncement a) ≡ true → has i (a .marks) ≡ true
+    announcement-mark = cell-mark content-coding a ranged
 
     pub announcement-has : (i : ℕ) → i < n → hasMark i (encodeAnnouncement a) ≡ has i (a .marks)
     announcement-has i below = cell-has content-coding a ranged i (omega arith)

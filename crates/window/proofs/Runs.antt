@@ -74,4 +74,9 @@ along-windows {file} {n} {q} {s} o d windows es =
     let l : WindowStore = record { store = s; windows = windows } in
     let run = same-run file es l in
     let same = ap (λ (z : Store). z .cells) run in
-    record { answers = λ x. ap (λ (z : Store). serveOf file x z .answer) run; cells = same; rest = λ r. same ∙ d .rest (callsOf file es l) r }
+    record {
+      answers = λ x. ap (λ (z : Store). serveOf file x z .answer) run;
+      cells = same;
+      rest = λ r. same ∙ d .rest (callsOf file es l) r;
+      prints = rw same (d .prints (callsOf file es l));
+    }

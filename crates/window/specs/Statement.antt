@@ -16,6 +16,7 @@ use Rattle.stepping.specs.declared.answer.StepAnswer.the-variants as step
 use Rattle.stepping.specs.Call.{taskAt, stepOf}
 use Rattle.stepping.specs.Runs.{Store, serveOf, runOf}
 use Rattle.stepping.specs.Opening.{Opening, objectIn, shown}
+use Rattle.stepping.specs.Print.{Print}
 use Rattle.stepping.specs.Statement.{Demands}
 use Rattle.window.specs.declared.WindowAnswer.the-variants as window
 use Rattle.window.specs.declared.LineAnswer.{LineAnswer}
@@ -183,12 +184,13 @@ abbrev pub ServedOnce : List ℕ → WindowStore → Type 0
 ServedOnce file l = (t : ℕ) → callAt (Served t) (happen file (Served t) l) ≡ []
 
 -- So demands 2 and 3 hold of runs with windows, at the calls that the events come to: at every point the next direct call is answered, and the
--- cells are, as the run shows, and at a point of rest the cells are the image of the book's state.
+-- cells are, as the run shows, at a point of rest the cells are the image of the book's state, and at every point they tell what a print tells.
 pub record AlongWindows {file : List ℕ} {n q : ℕ} {s : Store} (o : Opening file n q s) (d : Demands o) (windows : List ℕ) (es : List WindowEvent) : Type 0 where
   pub answers : (x : Call) → serveOf file x (after file es (opened s windows) .store) .answer ≡ shown o .answer (callsOf file es (opened s windows)) x
   pub cells : after file es (opened s windows) .store .cells ≡ shown o .cells (callsOf file es (opened s windows))
   pub rest : Rest (objectIn o) (shown o .history (callsOf file es (opened s windows)))
       → after file es (opened s windows) .store .cells ≡ image n (d .book (callsOf file es (opened s windows)) .state)
+  pub prints : Print (objectIn o) n q (after file es (opened s windows) .store .cells) (shown o .history (callsOf file es (opened s windows))) (d .book (callsOf file es (opened s windows)) .order)
 
 -- ---- Theorems B and C: a console and its window
 

@@ -13,12 +13,12 @@ use Rattle.machine.proofs.Book.Keeping.{Sound, sound, state-reached}
 use Rattle.machine.specs.Keeping.{bookOf}
 use Rattle.machine.specs.Points.{MidWork}
 
-pub mid-work : (b : Object) (n q : ℕ) → Opens b q → (xs : List Call) → MidWork b q (run b n xs (start q) .memory) (history b n xs (start q)) (bookOf b n q xs)
+pub mid-work : (b : Object) (n q : ℕ) → Opens b q → (xs : List Call) → MidWork b q (run b n xs (start q) .memory) (history b n xs (start q)) (bookOf b n q xs .order)
 mid-work b n q good xs = record {
   empty = λ t r. trace t r .empty;
   head-mark = λ t r. trace t r .head;
   announcement-mark = λ t j r. trace t r .marks j;
-  holder = λ p j r e. let (f, g) = holder-works b n _ (s .safe) (s .formed) p j r e in (_, _, pending-is b n xs q j ∙ f, g);
+  holder = λ p j r e. let (f, g) = holder-works b n _ (s .safe) (s .formed) p j r e in rw (pending-is b n xs q j, f) g;
   state = sym (s .related .state) ∙ state-reached b n q good xs;
 }
   where

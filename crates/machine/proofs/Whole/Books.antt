@@ -39,7 +39,7 @@ module _ {b : Object} {n : ℕ} where
   kept-below (then l f) here = booked-below (l .booking) _ _ refl refl
   kept-below (then l f) (later a) = kept-below f a
 
-module _ {b : Object} {n q ceiling : ℕ} {C : Type 0} {image : ℕ → C} {run : Shown C} (d : Demand b n q ceiling image run) where
+module _ {b : Object} {n q ceiling : ℕ} {C : Type 0} {image : ℕ → C} {Print : C → List Event → List Operation → Type 0} {run : Shown C} (d : Demand b n q ceiling image Print run) where
   kept : (xs : List Call) → (length (run .history xs) ≡ length xs) × Kept b n 0 (blank q) (run .history xs) (d .book xs)
   kept = from-the-end (λ xs. (length (run .history xs) ≡ length xs) × Kept b n 0 (blank q) (run .history xs) (d .book xs)) (rw (d .begins, d .first) (refl, rest)) more
     where

@@ -15,10 +15,12 @@ use Rattle.machine.specs.Book.{Legal}
 use Rattle.machine.specs.History.{Pends, pending}
 use Rattle.machine.specs.Demand.{Demand}
 use Rattle.machine.specs.Kind.{off}
+use Rattle.machine.specs.Points.{MidWork}
 use Rattle.machine.specs.Potential.{bound}
 use Rattle.machine.proofs.Book.Booked.{legal-serve}
 use Rattle.machine.proofs.Book.Keeping.{history-append, book-grows, sound, run-linearizable, order-stands}
 use Rattle.machine.proofs.Points.Rest.{rest-image}
+use Rattle.machine.proofs.Points.MidWork.{mid-work}
 use Rattle.machine.proofs.Points.OwnSteps.{own-record, next-step}
 use Rattle.machine.proofs.Points.Pending.{pending-is}
 use Rattle.machine.proofs.Whole.WaitFree.{pending-steps}
@@ -38,7 +40,7 @@ module _ (b : Object) (n q : ℕ) (good : Opens b q) where
       omega (arith, h, pending-steps b n q good xs t (r .below) (λ z. clash (ap off z) (r .works)), r .steps)
 
   -- Demands 2 and 3, with any ceiling that the proved bound doesn't pass.
-  unfoldable pub demand : (ceiling : ℕ) → bound n ≤ ceiling → Demand b n q ceiling image (machineShows b n q)
+  unfoldable pub demand : (ceiling : ℕ) → bound n ≤ ceiling → Demand b n q ceiling image (MidWork b q) (machineShows b n q)
   demand ceiling h = record {
     begins = refl;
     told = λ xs x. history-append b n xs (x ∷ []) (start q);
@@ -48,6 +50,7 @@ module _ (b : Object) (n q : ℕ) (good : Opens b q) where
     grows = order-stands b n q good;
     linearizes = run-linearizable b n q good;
     rest = rest-image b n q good;
+    prints = mid-work b n q good;
     accepted = λ xs t o s e. next-step b n q good xs t o s e .accepted;
     below = below ceiling h;
     count = λ xs t o s r k e. next-step b n q good xs t o s e .count r k;
