@@ -3,7 +3,8 @@
 use mathlib.Core.Path.{_≡_, ap, sym, subst, _∙_}
 use mathlib.Core.Logic.{_↔_}
 use mathlib.Core.List.{List, [], _∷_, _++_}
-use Prim.Native.Nat.{ℕ, _<_, _≤_}
+use Prim.Native.Nat.{ℕ, suc, _<_, _≤_}
+use native.Mathlib.Numerals.{add-one}
 use native.Mathlib.Omega.{arith}
 use Rattle.laws.proofs.Tabulate.{tabulate-length}
 use Rattle.laws.proofs.Clash.{clash, never}
@@ -25,6 +26,7 @@ use Rattle.machine.specs.Points.{MidWork, nextAccess}
 use Rattle.machine.proofs.Steps.Calls.{Serving, begins, begin-task, begin-operation, begin-pending, moves, step-task, step-idle, serving}
 use Rattle.machine.proofs.Points.Emptied.{emptyings}
 use Rattle.machine.proofs.Invariant.Ranges.{formed-run}
+use Rattle.machine.proofs.Points.MidWork.{stays-announced}
 use Rattle.machine.proofs.Points.OwnSteps.{own-record}
 use Rattle.machine.proofs.Points.Pending.{pending-is}
 use Rattle.machine.proofs.Whole.WaitFree.{bound-ceiling, pending-steps}
@@ -36,7 +38,7 @@ use Rattle.stepping.specs.Access.{accessOf}
 use Rattle.stepping.specs.Runs.{Store, CallOutcome, serveOf, runOf, historyOf}
 use Rattle.stepping.specs.Opening.{Opening, objectIn, shown}
 use Rattle.stepping.specs.Print.{Print}
-use Rattle.stepping.specs.Statement.{FitsTable, recordAfter, InFormThroughout, EmptyAt, Emptied}
+use Rattle.stepping.specs.Statement.{FitsTable, recordAfter, StaysAnnounced, InFormThroughout, EmptyAt, Emptied}
 use Rattle.stepping.specs.Encoding.{encodeCells, encodeRow, encodeConfig}
 use Rattle.stepping.proofs.Admission.{ceiling}
 use Rattle.stepping.proofs.Accesses.{cells-length, encoded-empty, encoded-in-form}
@@ -108,6 +110,13 @@ module _ {file : List ℕ} {n q : ℕ} {s : Store} (o : Opening file n q s) wher
     -- The announcements in the cells are those of the machine.
     announcement-opened : (t : ℕ) → t < n → EmptyAt (runOf file xs s .cells) t ↔ (content (machineRun xs .memory) t ≡ Empty)
     announcement-opened t below = rw run-opened (encoded-empty file (o .shape) (o .table) n (o .few) (machineRun xs .memory) (in-range xs .formed .memory) t below)
+
+  -- A task whose operation has made a step is announced.
+  pub announced-opened : StaysAnnounced o
+  announced-opened xs t x k e empty =
+      let p : pending (history (objectIn o) n xs (start q)) t ≡ Pends x (suc k) = ap (λ es. pending es t) (sym (history-opened xs)) ∙ e ∙ ap (Pends x) (add-one k) in
+      let r = own-record (objectIn o) n (machineRun xs) (in-range xs .formed) t x (suc k) (sym (pending-is (objectIn o) n xs q t) ∙ p) in
+      stays-announced (objectIn o) n q opens xs t x k p (announcement-opened xs t (r .below) .0 empty)
 
   -- What the machine shows, with its cells as words.
   abbrev pub encodedShows : Shown (List ℕ)

@@ -23,9 +23,9 @@ use Rattle.stepping.specs.Call.{StartOutcome, startOf, admitStartOf, beg
 use Rattle.stepping.specs.Runs.{Store}
 use Rattle.stepping.specs.Opening.{Opening, objectIn}
 use Rattle.stepping.specs.Lent.{Places}
-use Rattle.stepping.specs.Statement.{MakesAccess, FollowsResult, Local, OneCell, BeginByRecord, StepByRecord, StartUnchanged, BeginUnchanged, StepUnchanged, BeginRecordUnchanged, StepRecordUnchanged, StartTableRefused, BeginTableRefused, StepTableRefused, StartRowJudged, BeginRowJudged, StepRowJudged, BeginEntriesJudged, RecordJudged, BeginRecordJudged, CellJudged, HolderAbove, SavedHolderAbove, BeginHolderAbove, HeadsInForm, KeepsForm, LeavesInForm, Startable, StartOpens, Demands, SharperDemands, Independent, Answered, Carried, Prints, ShownChanges, StateReached, InFormThroughout, Refusals, Endings, Emptied, Between, OpensNext}
+use Rattle.stepping.specs.Statement.{MakesAccess, FollowsResult, Local, OneCell, BeginByRecord, StepByRecord, StartUnchanged, BeginUnchanged, StepUnchanged, BeginRecordUnchanged, StepRecordUnchanged, StartTableRefused, BeginTableRefused, StepTableRefused, StartRowJudged, BeginRowJudged, StepRowJudged, BeginEntriesJudged, RecordJudged, BeginRecordJudged, CellJudged, HolderAbove, SavedHolderAbove, BeginHolderAbove, HeadsInForm, KeepsForm, LeavesInForm, Startable, StartOpens, Demands, SharperDemands, Independent, Answered, Carried, Prints, ShownChanges, StaysAnnounced, StateReached, InFormThroughout, Refusals, Endings, Emptied, Between, OpensNext}
 use Rattle.stepping.proofs.Between.{between, opens-next}
-use Rattle.stepping.proofs.Demands.{opens, points-in-form, history-opened, answer-opened, access-opened, refused-opened, emptied}
+use Rattle.stepping.proofs.Demands.{opens, points-in-form, announced-opened, history-opened, answer-opened, access-opened, refused-opened, emptied}
 use Rattle.stepping.proofs.Outcomes.{answered, met, unmoved}
 use Rattle.stepping.proofs.Prints.{shown-changes}
 use Rattle.stepping.proofs.Forms.{heads-in-form, keeps-form, leaves-in-form}
@@ -170,6 +170,9 @@ module _ {file : List ℕ} {n q : ℕ} {s : Store} (o : Opening file n q s) wher
 
   pub changes-shown : ShownChanges o
   changes-shown xs t z = shown-changes (objectIn o) n q _ _ _ (demands-met .prints xs) t z
+
+  pub announced-still : StaysAnnounced o
+  announced-still = announced-opened o
 
   pub state-reached : (d : Demands o) → StateReached o d
   state-reached d xs = let replayed = state-replayed d xs in (replayed, d .prints xs .state ∙ sym replayed)

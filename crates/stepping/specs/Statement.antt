@@ -320,6 +320,10 @@ Prints {n = n} {q = q} o d = (xs : List Call) → Print (objectIn o) n q (shown 
 abbrev pub ShownChanges : {file : List ℕ} {n q : ℕ} {s : Store} → Opening file n q s → Type 0
 ShownChanges {n = n} o = (xs : List Call) (t : ℕ) → Shows n (shown o .cells xs) t → Changes (objectIn o) (pending (shown o .history xs) t)
 
+-- And one whose operation has made a step is shown so: the kind in its announcement isn't 0.
+abbrev pub StaysAnnounced : {file : List ℕ} {n q : ℕ} {s : Store} → Opening file n q s → Type 0
+StaysAnnounced o = (xs : List Call) (t x k : ℕ) → pending (shown o .history xs) t ≡ Pends x (k + 1) → kindIn (getD (shown o .cells xs) (t + 1) 0) ≢ 0
+
 -- The book's state is the one that its order has reached, and the head shows it.
 abbrev pub StateReached : {file : List ℕ} {n q : ℕ} {s : Store} (o : Opening file n q s) → Demands o → Type 0
 StateReached {q = q} o d =
