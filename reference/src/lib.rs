@@ -59,6 +59,7 @@ pub mod table;
 pub mod table_cases;
 pub mod table_file;
 pub mod trace;
+mod trace_conclusion;
 pub mod trace_event;
 mod trace_steps;
 mod transition;

@@ -164,6 +164,8 @@ mod tests {
   announcement 0  0000000000000000  empty
   announcement 1  0000000000000000  empty
   marks 0
+  it follows: the order of operations has led to state 1
+  no trace of tasks 0 1: idle, reading, or changing and not yet announced
 < m 0000000000000100 0000000000000000 0000000000000000 0
 ";
 
@@ -178,6 +180,8 @@ mod tests {
   announcement 0  0000000000000000  empty
   announcement 1  0000000000000000  empty
   marks 0
+  it follows: the order of operations has led to state 0
+  no trace of tasks 0 1: idle, reading, or changing and not yet announced
 < m 0000000000000000 0000000000000000 0000000000000000 0
 ";
 
@@ -224,6 +228,9 @@ mod tests {
   announcement 0  0000000000010100  operation 1
   announcement 1  0000000000000000  empty
   marks 1
+  it follows: the order of operations has led to state 0
+  it follows: task 0 has a changing operation pending: announced, marked in the head
+  no trace of task 1: idle, reading, or changing and not yet announced
 < m 0000000000000001 0000000000010100 0000000000000000 1
 ";
         assert_eq!(last_on_flag(&linked), expected);

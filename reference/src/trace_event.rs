@@ -5,6 +5,7 @@ use crate::machine::{Access, Action, Outcome, HEAD_CELL};
 use crate::phase::Phase;
 use crate::refusal::Refusal;
 use crate::reply::moved_words;
+use crate::trace_conclusion::conclusion_lines;
 
 #[derive(Clone, Debug, PartialEq, Eq)]
 pub enum Event {
@@ -52,7 +53,7 @@ pub struct Step {
 }
 
 impl Event {
-    /// One line, or one for each cell and one for the marks.
+    /// One line; or one for each cell, one for the marks, and what these words say of the run.
     pub fn lines(&self) -> Vec<String> {
         let line = match self {
             Event::Cells(cells) => return cell_lines(cells),
@@ -144,7 +145,8 @@ fn cell_lines(cells: &[u64]) -> Vec<String> {
         format!("{:<14}  {word:016x}  {}", cell_name(cell), meaning(cell, word))
     };
     let marks = format!("marks {}", count_marks(cells));
-    cells.iter().enumerate().map(line).chain([marks]).collect()
+    let words = cells.iter().enumerate().map(line);
+    words.chain([marks]).chain(conclusion_lines(cells)).collect()
 }
 
 /// What a cell's word says.
@@ -302,6 +304,9 @@ mod tests {
             "announcement 0  0000000000010101  operation 1, marked by 0",
             "announcement 1  0000000000000000  empty",
             "marks 3",
+            "it follows: the order of operations has led to state 1",
+            "it follows: task 0 has a changing operation pending: announced, marked in the head and announcement 0",
+            "it follows: task 1 has a changing operation pending: marked in the head",
         ];
         assert_eq!(Event::Cells(vec![0x103, 0x1_0101, 0]).lines(), expected);
     }

@@ -5,6 +5,7 @@ mod canonical;
 mod ceiling;
 mod chart;
 mod check;
+mod conclusion;
 mod consoles;
 mod difference;
 mod force;

@@ -2,6 +2,7 @@
 
 use drive_object::Shape;
 
+use crate::conclusion::conclusions;
 use crate::lines::LONGEST;
 use crate::phase::Access;
 use crate::refused;
@@ -89,7 +90,7 @@ fn words(step: &Step) -> String {
     }
 }
 
-/// The cells with their meaning, and how many marks are set in all of them together.
+/// The cells with their meaning, how many marks are set in all of them together, and what follows from them.
 fn cell_lines(cells: &[u64]) -> Vec<String> {
     let line = |(cell, word): (usize, &u64)| {
         format!("{:<14}  {word:016x}  {}", cell_name(cell), meaning(cell, *word))
@@ -100,5 +101,6 @@ fn cell_lines(cells: &[u64]) -> Vec<String> {
         .enumerate()
         .map(line)
         .chain([format!("marks {total}")])
+        .chain(conclusions(cells))
         .collect()
 }

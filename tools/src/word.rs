@@ -30,9 +30,14 @@ pub enum Content {
     Response(Reply),
 }
 
+/// The kind of an announcement: 0 empty, 1 an operation, 2 a response.
+pub fn kind(announcement: u64) -> u64 {
+    field(announcement, 8, 2)
+}
+
 pub fn content(announcement: u64) -> Content {
     let payload = field(announcement, 16, 8);
-    match field(announcement, 8, 2) {
+    match kind(announcement) {
         1 => Content::Operation(payload),
         2 => Content::Response(Reply {
             response: payload,
@@ -57,6 +62,11 @@ pub fn marks(word: u64) -> u32 {
     field(word, 0, 8).count_ones()
 }
 
+/// The tasks whose marks stand in a cell.
+pub fn marked_by(word: u64) -> impl Iterator<Item = u64> {
+    (0..8).filter(move |task| word >> task & 1 == 1)
+}
+
 /// The word of a cell in words.
 pub fn meaning(cell: usize, word: u64) -> String {
     let mut text = match (cell, content(word)) {
@@ -70,8 +80,7 @@ pub fn meaning(cell: usize, word: u64) -> String {
     }
     if marks(word) > 0 {
         text.push_str(", marked by");
-        let marked = (0..8).filter(|task| field(word, *task, 1) == 1);
-        marked.for_each(|task| write!(text, " {task}").expect("a string takes every text"));
+        marked_by(word).for_each(|task| write!(text, " {task}").expect("a string takes every text"));
     }
     text
 }
