@@ -115,6 +115,7 @@ mod tests {
     fn each_trace_alone_tells_of_an_operation() {
         assert_eq!(of_tasks(&[0, 0x0001_0100]), [pending(0, "announced")]);
         assert_eq!(of_tasks(&[0, 0x0000_0200]), [pending(0, "announced")]);
+        assert_eq!(of_tasks(&[0, 0x0000_0300]), [pending(0, "announced")]);
         assert_eq!(of_tasks(&[0x0100_0000, 0]), [pending(0, "holds the head")]);
         assert_eq!(of_tasks(&[0x0001, 0]), [pending(0, "marked in the head")]);
         assert_eq!(of_tasks(&[0, 0x0001]), [pending(0, "marked in announcement 0")]);

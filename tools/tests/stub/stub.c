@@ -2,11 +2,13 @@
  * An archive that answers otherwise than the library, whatever it is lent: the start state is 1, operation 0 is changing and
  * the others are reading, every ceiling is 77, and a step of task 0 is refused with 12. A step of another task ends its
  * operation: a changing one leaves replies that moved in the cells and answers that nothing moved, a reading one leaves
- * everything and answers that the state moved. A list with a ring of 1,000 millimetres is refused with 14, chainage 5 with 15,
- * the table of two rings with 16; chainage 6 belongs to ring 9 and any other to the last ring; a table is a text, and that of
- * three rings has more bytes than any room. The one file of a table's object is refused with 16 for a table of one byte, and
- * for one of two bytes it has more bytes than any room; for others it is two states that never change, where operation 0
- * responds with the number of the call if the table has 28 bytes or more, and after a byte of text if the table has three.
+ * everything and answers that the state moved. A changing one of task 2 leaves a head with marks of tasks 0 and 7 and the
+ * holder 14, a mark of task 1 in announcement 0, and no announcement that isn't empty.
+ * A list with a ring of 1,000 millimetres is refused with 14, chainage 5 with 15, the table of two rings with 16; chainage 6
+ * belongs to ring 9 and any other to the last ring; a table is a text, and that of three rings has more bytes than any room.
+ * The one file of a table's object is refused with 16 for a table of one byte, and for one of two bytes it has more bytes than
+ * any room; for others it is two states that never change, where operation 0 responds with the number of the call if the table
+ * has 28 bytes or more, and after a byte of text if the table has three.
  * A window call counts itself in byte 7 and leaves the command. Command 1 is refused with 10, and leaves busy and the number
  * 17; 2 begins operation 31, a reading one; 3 ends an operation with response 200, moved; any other is refused with 99. A
  * line is up while it is masked, and that of task 1 is refused with 17; a task without a window gets 18.
@@ -105,8 +107,14 @@ uint64_t drive_step(const uint8_t *file, size_t file_length, uint64_t *cells, si
     if (reading) {
         return ended(1, 4, 55);
     }
-    cells[0] = 0x11060300;
-    cells[task + 1] = 0x01050200;
+    if (task == 2) {
+        cells[0] = 0x0f000981;
+        cells[1] = 2;
+        cells[2] = cells[3] = 0;
+    } else {
+        cells[0] = 0x11060300;
+        cells[task + 1] = 0x01050200;
+    }
     return ended(0, 3, 44);
 }
 
