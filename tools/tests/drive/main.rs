@@ -3,11 +3,14 @@
 mod canonical;
 mod ceilings;
 mod commands;
+mod conclusions;
 mod differences;
 mod drawing;
 mod force;
+mod mid_work;
 mod page;
 mod pictures;
+mod prints;
 mod program;
 mod questions;
 mod rings;

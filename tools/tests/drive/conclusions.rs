@@ -1,0 +1,138 @@
+//! What `drive run` says to follow from a print: it is true by what was told before, and all sorts of prints occur.
+
+use std::collections::BTreeMap;
+
+use crate::mid_work::EXAMPLE;
+use crate::prints::{prints, Doing, Print};
+use crate::program::drive;
+use crate::runs::stories;
+
+/// All prints, each with the name of its story.
+fn all_prints() -> impl Iterator<Item = (&'static str, Print)> {
+    let told = stories().iter().filter(|story| story.told.is_ok());
+    told.flat_map(|story| {
+        let prints = prints(&story.table, story.told.as_deref().unwrap_or_default());
+        prints.into_iter().map(|print| (story.name.as_str(), print))
+    })
+}
+
+/// The tasks that are named are those with a changing operation that has made a step; there is no trace of all others; and
+/// the state is the one to which the applied operations lead.
+#[test]
+fn what_follows_is_true_by_what_was_told_before() {
+    for (name, print) in all_prints() {
+        let announced = |task: &usize| matches!(print.doing[*task], Doing::Changing { steps: 1.., .. });
+        let (busy, others): (Vec<usize>, Vec<usize>) = (0..print.doing.len()).partition(announced);
+        let named: Vec<usize> = print.pending.iter().map(|(task, _)| *task).collect();
+        assert_eq!((named, &print.others), (busy, &others), "{name}: {print:?}");
+        assert_eq!(print.states, [print.reached], "{name}: {print:?}");
+    }
+}
+
+/// What a task's announcement holds and what is said of the task, and in how many prints that occurs at least.
+const OF_TASKS: [(&str, usize); 22] = [
+    ("operation: announced", 5_000),
+    ("operation: announced, holds the head", 500),
+    ("operation: announced, holds the head, marked in the head", 200),
+    (
+        "operation: announced, holds the head, marked in the head and its own",
+        100,
+    ),
+    ("operation: announced, holds the head, marked in another's", 1),
+    ("operation: announced, marked in the head", 1_000),
+    ("operation: announced, marked in the head and another's", 100),
+    ("operation: announced, marked in another's", 20),
+    ("response: announced", 100),
+    ("response: announced, holds the head", 20),
+    ("response: announced, holds the head, marked in the head", 50),
+    (
+        "response: announced, holds the head, marked in the head and its own",
+        1,
+    ),
+    ("response: announced, holds the head, marked in another's", 1),
+    ("response: announced, marked in the head", 20),
+    ("response: announced, marked in its own", 1),
+    ("response: announced, marked in another's", 1),
+    ("empty: idle, no trace", 5_000),
+    ("empty: reading, no trace", 1_000),
+    ("empty: begun, no trace", 1_000),
+    ("empty, marked: idle, no trace", 1),
+    ("empty, marked: reading, no trace", 1),
+    ("empty, marked: begun, no trace", 1),
+];
+
+/// Of how many tasks there is no trace, and in how many prints at least.
+const OF_PRINTS: [(&str, usize); 3] = [("none", 100), ("one", 1_000), ("several", 1_000)];
+
+#[test]
+fn all_sorts_of_prints_occur() {
+    let of_tasks = all_prints().flat_map(|(_, print)| of_tasks(&print));
+    all_occur(of_tasks, &OF_TASKS);
+    let of_prints = all_prints().map(|(_, print)| match print.others.len() {
+        0 => "none".to_string(),
+        1 => "one".to_string(),
+        _ => "several".to_string(),
+    });
+    all_occur(of_prints, &OF_PRINTS);
+}
+
+fn all_occur(found: impl Iterator<Item = String>, expected: &[(&str, usize)]) {
+    let mut counts: BTreeMap<String, usize> = BTreeMap::new();
+    found.for_each(|found| *counts.entry(found).or_default() += 1);
+    for (name, least) in expected {
+        assert!(counts.get(*name) >= Some(least), "{name}: {counts:#?}");
+    }
+}
+
+/// What each task's announcement holds, and what is said of the task.
+fn of_tasks(print: &Print) -> Vec<String> {
+    let pending = print.pending.iter().map(|(task, traces)| {
+        let (content, _) = announcement(print, *task);
+        format!("{content}: {}", by_owner(*task, traces))
+    });
+    let others = print.others.iter().map(|task| {
+        let (content, marked) = announcement(print, *task);
+        let doing = match print.doing[*task] {
+            Doing::Nothing => "idle",
+            Doing::Reading => "reading",
+            Doing::Changing { .. } => "begun",
+        };
+        format!("{content}{marked}: {doing}, no trace")
+    });
+    pending.chain(others).collect()
+}
+
+/// What the print says that a task's announcement holds, and whether it is marked.
+fn announcement(print: &Print, task: usize) -> (&str, &'static str) {
+    let (_, meaning) = print.cells[task + 1].rsplit_once("  ").expect("columns");
+    let marked = if meaning.contains(", marked by ") {
+        ", marked"
+    } else {
+        ""
+    };
+    (meaning.split([' ', ',']).next().unwrap_or_default(), marked)
+}
+
+/// The traces of a task, with its own announcement and those of others instead of their numbers.
+fn by_owner(task: usize, traces: &str) -> String {
+    (0..8).fold(traces.to_string(), |text, owner| {
+        let whose = if owner == task { "its own" } else { "another's" };
+        text.replace(&format!("announcement {owner}"), whose)
+    })
+}
+
+/// The last line of a run, what happened and what was printed stand in a page as they are told.
+fn page_ends_as(page: &str, run: [&str; 2]) {
+    let told = drive(&["run", run[0], run[1]], b"").text();
+    let last = told.rfind("> m\n").expect("a print");
+    let block: String = told[last..].lines().map(|line| format!("    {line}\n")).collect();
+    let page = std::fs::read_to_string(page).expect("the page");
+    assert!(page.contains(&format!("\n\n{block}\n")), "{block}");
+}
+
+#[test]
+fn the_pages_show_prints() {
+    let flag = "../crates/bench/data/table.bin";
+    page_ends_as("../README.md", [flag, "../crates/bench/stdin"]);
+    page_ends_as("README.md", [flag, EXAMPLE]);
+}
