@@ -16,8 +16,8 @@ fn all_prints() -> impl Iterator<Item = (&'static str, Print)> {
     })
 }
 
-/// The tasks that are named are those with a changing operation that has made a step; there is no trace of all others; and
-/// the state is the one to which the applied operations lead.
+/// Named are the tasks with a changing operation that has made a step, and all others are said to be without a trace; the state
+/// is the one to which the applied operations lead.
 #[test]
 fn what_follows_is_true_by_what_was_told_before() {
     for (name, print) in all_prints() {
@@ -121,8 +121,8 @@ fn by_owner(task: usize, traces: &str) -> String {
     })
 }
 
-/// The last line of a run, what happened and what was printed stand in a page as they are told.
-fn page_ends_as(page: &str, run: [&str; 2]) {
+/// The last print of a run stands in a page as it is told.
+fn page_shows_last(page: &str, run: [&str; 2]) {
     let told = drive(&["run", run[0], run[1]], b"").text();
     let last = told.rfind("> m\n").expect("a print");
     let block: String = told[last..].lines().map(|line| format!("    {line}\n")).collect();
@@ -133,6 +133,6 @@ fn page_ends_as(page: &str, run: [&str; 2]) {
 #[test]
 fn the_pages_show_prints() {
     let flag = "../crates/bench/data/table.bin";
-    page_ends_as("../README.md", [flag, "../crates/bench/stdin"]);
-    page_ends_as("README.md", [flag, EXAMPLE]);
+    page_shows_last("../README.md", [flag, "../crates/bench/stdin"]);
+    page_shows_last("README.md", [flag, EXAMPLE]);
 }

@@ -1,4 +1,4 @@
-//! Runs that are printed in mid-work, of which generated ones seldom bring about the like.
+//! Runs that are printed in mid-work, where generated ones seldom come.
 
 use reference::script_cases::{script, Script};
 use reference::table_file::TableFile;
