@@ -4,6 +4,7 @@ use mathlib.Core.Bool.{Bool, true, false}
 use mathlib.Core.List.{List, [], _∷_, _++_}
 use Prim.Native.Nat.{ℕ, zero, suc, _+_, _-_, _≤_}
 use native.Mathlib.Omega.{arith}
+use borrow.Author.Tests.{ne-eqb}
 use Rattle.laws.proofs.Clash.{never}
 use Rattle.table.specs.declared.Checked.{Checked}
 use Rattle.table.specs.declared.Checked.the-variants as table
@@ -22,10 +23,11 @@ use Rattle.stepping.proofs.Continued.{run-append, accepted-pends}
 use Rattle.bench_lines.specs.declared.reply.Reply.{Reply}
 use Rattle.bench_lines.specs.declared.reply.Reply.the-variants as reply
 use Rattle.bench_row.specs.First.{stepFirst}
+use Rattle.bench_lines.specs.Line.{cellsLine}
 use Rattle.bench_session.specs.declared.run.Bench.{Bench}
 use Rattle.bench_session.specs.declared.run.Handled.{Handled}
-use Rattle.bench_session.specs.Run.{stepReply, stepHeld, stepBench, runsOn, finishFrom, mostTurns, finishBench}
-use Rattle.bench_session.specs.Statement.{EndsBy, benchAfter, Finishes, WholeOutput, CutAnywhere, ServedUnfinished}
+use Rattle.bench_session.specs.Run.{stepReply, stepHeld, stepBench, runsOn, finishFrom, mostTurns, finishBench, serveCommand}
+use Rattle.bench_session.specs.Statement.{EndsBy, benchAfter, Finishes, WholeOutput, CutAnywhere, ServedUnfinished, PrintsPoint, PrintsPoints}
 use Rattle.bench_session.proofs.Feeds.{feed-parts}
 use Rattle.bench_session.proofs.Outputs.{whole-output, output-unfinished}
 use Rattle.bench_session.proofs.Runs.{finish-more, finish-last, most-turns}
@@ -129,3 +131,21 @@ cut-anywhere = feed-parts
 
 pub served-unfinished : (file input : List ℕ) → ServedUnfinished file input
 served-unfinished = output-unfinished
+
+-- The cells that are printed are those that are lent to the calls.
+pub prints-points : (file : List ℕ) → PrintsPoints file
+unfolding serveCommand
+prints-points file bytes input some = at (consistent-after file bytes input .situation)
+  where
+    bench : Bench
+    bench = benchAfter file input
+
+    at : Situation file (bench .tasks) (lent bench) → PrintsPoint file input
+    at (before z) = absurd (some z)
+    at (during {q} {first} o xs same) = record {
+      state = q;
+      store = first;
+      opening = o;
+      calls = xs;
+      line = rw (ne-eqb (bench .tasks) 0 some) (ap (λ (z : Store). cellsLine (z .cells)) (sym same));
+    }

@@ -1,16 +1,21 @@
 -- What is proved of the bench as a whole, as types over its definitions. `proofs/Theorem.antt` has a proof of each.
 use mathlib.Core.Path.{_≡_}
 use mathlib.Core.Bool.{Bool, false, cond}
+use mathlib.Core.Logic.{_≢_}
 use mathlib.Core.List.{List, [], _∷_, _++_}
 use Prim.Native.Nat.{ℕ}
 use lib.Dec.{eqb}
 use Rattle.table.specs.File.{Bytes}
 use Rattle.table.specs.Check.{checkOf}
+use Rattle.machine.specs.Calls.{Call}
+use Rattle.stepping.specs.Runs.{Store}
+use Rattle.stepping.specs.Opening.{Opening, shown}
+use Rattle.bench_lines.specs.declared.command.Command.the-variants as command
 use Rattle.bench_lines.specs.declared.reply.Reply.{Reply}
 use Rattle.bench_lines.specs.declared.reply.Reply.the-variants as reply
 use Rattle.bench_session.specs.declared.run.Bench.{Bench}
-use Rattle.bench_session.specs.Run.{stepBench, finishBench}
-use Rattle.bench_lines.specs.Line.{newline}
+use Rattle.bench_session.specs.Run.{stepBench, finishBench, serveCommand}
+use Rattle.bench_lines.specs.Line.{newline, cellsLine}
 use Rattle.bench_session.specs.Session.{isServed, tableText, outputOf, Fed, newSession, andThen, feed, finishText}
 
 -- How `d t` ends, by the reply of its first step: one that ends the operation or is refused is the last; after one that
@@ -29,6 +34,18 @@ benchAfter file input = feed file newSession input .fed .bench
 abbrev pub Finishes : List ℕ → Type 0
 Finishes file = Bytes file → (input : List ℕ) (t : ℕ)
     → EndsBy t (stepBench file (benchAfter file input) t .reply) (finishBench file (benchAfter file input) t .reply)
+
+-- What `m` prints after an input are the cells of a point of a run: some opening with the bench's tasks, and some calls after it.
+pub record PrintsPoint (file input : List ℕ) : Type 0 where
+  pub state : ℕ
+  pub store : Store
+  pub opening : Opening file (benchAfter file input .tasks) state store
+  pub calls : List Call
+  pub line : serveCommand file (benchAfter file input) command.Print .text ≡ cellsLine (shown opening .cells calls)
+
+-- So it is whatever the input, once tasks are started.
+abbrev pub PrintsPoints : List ℕ → Type 0
+PrintsPoints file = Bytes file → (input : List ℕ) → benchAfter file input .tasks ≢ 0 → PrintsPoint file input
 
 -- What the session's functions give is the whole output: the text of the table's test, then, if the table is served, the texts of
 -- the input's bytes in their order and that of its end.

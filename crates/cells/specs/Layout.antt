@@ -82,11 +82,11 @@ headAt q r h v = cond (eqb h 0) (Free q) (Held q (h - 1) r (eqb v 1))
 abbrev pub headFrom : List ℕ → Head
 headFrom vs = headAt (getD vs 1 0) (getD vs 2 0) (getD vs 3 0) (getD vs 4 0)
 
--- The state that a word's field holds.
+-- The state that a head's word holds in its field.
 abbrev pub stateInWord : ℕ → ℕ
 stateInWord w = getD (unpack headWidths w) 1 0
 
--- The holder's number that a word's field holds: 0 for none, else the task's number plus 1.
+-- The holder that a head's word holds in its field: 0 for none, else the task's number plus 1.
 abbrev pub holderIn : ℕ → ℕ
 holderIn w = getD (unpack headWidths w) 3 0
 
@@ -108,7 +108,7 @@ announcementValues (Response r moved) m = m ∷ 2 ∷ 0 ∷ r ∷ bit moved ∷ 
 abbrev pub announcementAt : (kind payload moved : ℕ) → Announcement
 announcementAt k p v = cond (eqb k 1) (Operation p) (cond (eqb k 2) (Response p (eqb v 1)) Empty)
 
--- The kind that a word's field holds.
+-- The kind that an announcement's word holds in its field.
 abbrev pub kindIn : ℕ → ℕ
 kindIn w = getD (unpack announcementWidths w) 1 0
 

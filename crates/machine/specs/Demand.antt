@@ -24,7 +24,7 @@ StepAccepted (Ended r k) = Unit {0}
 StepAccepted (Refused r) = ⊥
 
 -- A run of n tasks over an object from state q: what it shows agrees with the plain book, with Herlihy and Wing, with the
--- image of a state at rest, with what a print of the cells tells at any point, and with a ceiling of own steps.
+-- image of a state at rest, with what may be read in a print of the cells at any point, and with a ceiling of own steps.
 pub record Demand (b : Object) (n q ceiling : ℕ) {C : Type 0} (image : ℕ → C) (Print : C → List Event → List Operation → Type 0) (run : Shown C) : Type 0 where
   -- The history is the calls so far, each with its answer.
   pub begins : run .history [] ≡ []
@@ -40,7 +40,7 @@ pub record Demand (b : Object) (n q ceiling : ℕ) {C : Type 0} (image : ℕ →
   pub linearizes : (xs : List Call) → Linearizes b q (run .history xs) (book xs .order)
   -- At a point of rest the cells are the image of the book's state.
   pub rest : (xs : List Call) → Rest b (run .history xs) → run .cells xs ≡ image (book xs .state)
-  -- At every point the cells tell what a print tells, with the history and the order so far.
+  -- At every point the cells agree with the history and the order so far, as a print of them may be read.
   pub prints : (xs : List Call) → Print (run .cells xs) (run .history xs) (book xs .order)
   -- While an operation is pending, its task's next step is accepted, and the own steps so far are below the ceiling.
   pub accepted : (xs : List Call) (t o s : ℕ) → pending (run .history xs) t ≡ Pends o s → StepAccepted (run .answer xs (Step t))

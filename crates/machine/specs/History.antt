@@ -43,10 +43,10 @@ pendingFrom t p (e ∷ es) = pendingFrom t (heard t (e .call) (e .answer) p) es
 abbrev pub pending : List Event → ℕ → Pending
 pending es t = pendingFrom t Nothing es
 
--- No changing operation is pending: none at all, or a reading one.
-abbrev pub Reads : Object → Pending → Type 0
-Reads b Nothing = Unit {0}
-Reads b (Pends o s) = b .changing o ≡ false
+-- A quiet task has no changing operation pending: it is idle, or its pending operation is reading.
+abbrev pub Quiet : Object → Pending → Type 0
+Quiet b Nothing = Unit {0}
+Quiet b (Pends o s) = b .changing o ≡ false
 
 -- A changing operation is pending.
 abbrev pub Changes : Object → Pending → Type 0
@@ -55,7 +55,7 @@ Changes b (Pends o s) = b .changing o ≡ true
 
 -- A point of rest: no changing operation is pending.
 abbrev pub Rest : Object → List Event → Type 0
-Rest b es = (t : ℕ) → Reads b (pending es t)
+Rest b es = (t : ℕ) → Quiet b (pending es t)
 
 -- ---- Linearizability, after Herlihy and Wing
 

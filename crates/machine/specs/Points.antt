@@ -10,17 +10,17 @@ use Rattle.machine.specs.Machine.{Access, ReadHead, WriteAnnouncement, p
 use Rattle.machine.specs.Run.{Config}
 use Rattle.machine.specs.Calls.{Answer, Running, Ended, Event}
 use Rattle.machine.specs.Book.{Operation}
-use Rattle.machine.specs.History.{pending, Reads, Changes, reached}
+use Rattle.machine.specs.History.{pending, Quiet, Changes, reached}
 use Rattle.machine.specs.Demand.{StepAccepted}
 use Rattle.machine.specs.Invariant.{inHead, inAnnouncement, headValue, content}
 
 -- Over the cells m, with the history es and the order so far, from the start in state q.
 pub record MidWork (b : Object) (q : ℕ) (m : Memory) (es : List Event) (order : List Operation) : Type 0 where
   -- The announcement of a task with no changing operation pending is empty.
-  pub empty : (t : ℕ) → Reads b (pending es t) → content m t ≡ Empty
+  pub empty : (t : ℕ) → Quiet b (pending es t) → content m t ≡ Empty
   -- No cell has a mark of such a task.
-  pub head-mark : (t : ℕ) → Reads b (pending es t) → inHead m t ≡ true → ⊥
-  pub announcement-mark : (t j : ℕ) → Reads b (pending es t) → inAnnouncement m t j ≡ true → ⊥
+  pub head-mark : (t : ℕ) → Quiet b (pending es t) → inHead m t ≡ true → ⊥
+  pub announcement-mark : (t j : ℕ) → Quiet b (pending es t) → inAnnouncement m t j ≡ true → ⊥
   -- The head's holder has a changing operation pending.
   pub holder : (p j : ℕ) (r : Outcome) → headValue m ≡ Held p j r → Changes b (pending es j)
   -- The head's state is the one that the operations entered so far have led to.

@@ -37,8 +37,8 @@ use Rattle.stepping.specs.Call.{taskAt}
 use Rattle.stepping.specs.Access.{accessOf}
 use Rattle.stepping.specs.Runs.{Store, CallOutcome, serveOf, runOf, historyOf}
 use Rattle.stepping.specs.Opening.{Opening, objectIn, shown}
-use Rattle.stepping.specs.Print.{Print}
-use Rattle.stepping.specs.Statement.{FitsTable, recordAfter, StaysAnnounced, InFormThroughout, EmptyAt, Emptied}
+use Rattle.stepping.specs.Print.{EmptyAt, Print}
+use Rattle.stepping.specs.Statement.{FitsTable, recordAfter, StaysAnnounced, InFormThroughout, Emptied}
 use Rattle.stepping.specs.Encoding.{encodeCells, encodeRow, encodeConfig}
 use Rattle.stepping.proofs.Admission.{ceiling}
 use Rattle.stepping.proofs.Accesses.{cells-length, encoded-empty, encoded-in-form}

@@ -31,7 +31,7 @@ use Rattle.reach.specs.Statement.{ChangingExactly}
 use Rattle.reach.proofs.Search.{start-reached}
 use Rattle.reach.proofs.Changing.{accepted-states, accepted-changing}
 use Rattle.machine.specs.Calls.{Begin, Begun}
-use Rattle.machine.specs.History.{Pending, Nothing, Pends, pending, heard, Reads}
+use Rattle.machine.specs.History.{Pending, Nothing, Pends, pending, heard, Quiet}
 use Rattle.records.specs.declared.record.Task.{Task}
 use Rattle.records.specs.declared.phase.Phase.{Phase}
 use Rattle.records.specs.declared.phase.Phase.the-variants as phase
@@ -109,11 +109,11 @@ module _ {file : List ℕ} {n q : ℕ} {s : Store} (o : Opening file n q s) wher
 
   pub quiet-exactly : QuietExactly o
   quiet-exactly xs t = (
-    λ quiet x k e. exactly x .reads .0 (subst (Reads (objectIn o)) e quiet),
+    λ quiet x k e. exactly x .reads .0 (subst (Quiet (objectIn o)) e quiet),
     reads (pending (shown o .history xs) t),
   )
     where
-      reads : (p : Pending) → ((x k : ℕ) → p ≡ Pends x k → Preserves file (o .shape) (Reachable file (o .shape)) x) → Reads (objectIn o) p
+      reads : (p : Pending) → ((x k : ℕ) → p ≡ Pends x k → Preserves file (o .shape) (Reachable file (o .shape)) x) → Quiet (objectIn o) p
       reads Nothing keeps = tt
       reads (Pends x k) keeps = exactly x .reads .1 (keeps x k refl)
 
@@ -181,6 +181,6 @@ unfolding spare-opening entryOf spareFile
 spare-rest = record {
   opening = spare-opening;
   pends = pends-0;
-  rests = λ t. subst (λ a. Reads (objectIn spare-opening) (heard t (Begin 0 0) a Nothing)) (sym begun) (choice (Reads (objectIn spare-opening)) (eqb 0 t) (Pends 0 0) Nothing read-by-spare tt);
+  rests = λ t. subst (λ a. Quiet (objectIn spare-opening) (heard t (Begin 0 0) a Nothing)) (sym begun) (choice (Quiet (objectIn spare-opening)) (eqb 0 t) (Pends 0 0) Nothing read-by-spare tt);
   moved = λ all. let same : _≡_ {A = ℕ} 0 2 = all 0 0 0 pends-0 2 (omega arith) in omega arith;
 }

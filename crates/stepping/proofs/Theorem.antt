@@ -164,12 +164,12 @@ module _ {file : List ℕ} {n q : ℕ} {s : Store} (o : Opening file n q s) wher
   unfolding demands-met
   carried-known = met o (1000 * (n * n * n)) (bound-ceiling n (o .some)) .1
 
-  -- What a print tells, at every point and of the one book of the demands.
-  pub prints : (d : Demands o) → Prints o d
-  prints d = d .prints
+  -- What may be read in a print, at every point, with the order of that book.
+  pub prints : Prints o demands-met
+  prints = demands-met .prints
 
   pub changes-shown : ShownChanges o
-  changes-shown xs t z = shown-changes (objectIn o) n q _ _ _ (demands-met .prints xs) t z
+  changes-shown xs t z = shown-changes (objectIn o) n q _ _ _ (prints xs) t z
 
   pub announced-still : StaysAnnounced o
   announced-still = announced-opened o

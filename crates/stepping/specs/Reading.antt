@@ -14,7 +14,7 @@ use Rattle.table.specs.File.{shapeOf}
 use Rattle.table.specs.Entries.{entryOf, moves}
 use Rattle.reach.specs.Walk.{nextOf, Reachable}
 use Rattle.machine.specs.Calls.{Call, Begin, Step, Begun, Ended, Event}
-use Rattle.machine.specs.History.{Pends, pending, Reads, Rest}
+use Rattle.machine.specs.History.{Pends, pending, Quiet, Rest}
 use Rattle.records.specs.declared.record.Task.{Task}
 use Rattle.records.specs.Record.{idleTask}
 use Rattle.transition.specs.declared.access.Access.the-variants.{Read}
@@ -64,17 +64,18 @@ EndsAtOnce {file} {n} o =
     → (accessOf file n t (recordAfter o xs t) ≡ Read 0)
     × ((r : ℕ) × (shown o .answer xs (Step t) ≡ Ended (record { response = r; moved = false }) 1))
 
--- The pending operation of task t in a history, if any, preserves every state of a kind; every pending operation does.
+-- The pending operation of task t in a history, if any, preserves every state of a kind.
 abbrev pub PendingPreserves : List ℕ → Shape → (ℕ → Type 0) → List Event → ℕ → Type 0
 PendingPreserves file shape States es t = (x k : ℕ) → pending es t ≡ Pends x k → Preserves file shape States x
 
+-- Every pending operation does.
 abbrev pub AllPreserve : List ℕ → Shape → (ℕ → Type 0) → List Event → Type 0
 AllPreserve file shape States es = (t : ℕ) → PendingPreserves file shape States es t
 
--- A task has no changing operation pending exactly if its pending operation, if any, preserves every state that can be reached.
+-- A task is quiet exactly if its pending operation, if any, preserves every state that can be reached.
 abbrev pub QuietExactly : {file : List ℕ} {n q : ℕ} {s : Store} → Opening file n q s → Type 0
 QuietExactly {file} o =
-    (xs : List Call) (t : ℕ) → Reads (objectIn o) (pending (shown o .history xs) t) ↔ PendingPreserves file (o .shape) (Reachable file (o .shape)) (shown o .history xs) t
+    (xs : List Call) (t : ℕ) → Quiet (objectIn o) (pending (shown o .history xs) t) ↔ PendingPreserves file (o .shape) (Reachable file (o .shape)) (shown o .history xs) t
 
 -- A point is one of rest exactly if every pending operation preserves every state that can be reached.
 abbrev pub RestExactly : {file : List ℕ} {n q : ℕ} {s : Store} → Opening file n q s → Type 0

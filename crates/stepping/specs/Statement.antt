@@ -10,7 +10,7 @@ use Rattle.refusal.specs.declared.Refusal.{Refusal}
 use Rattle.refusal.specs.Number.{numberOf, refusedBy, refused}
 use Rattle.cells.specs.Form.{headInForm, cellsInForm}
 use Rattle.cells.specs.Image.{image}
-use Rattle.cells.specs.Layout.{stateInWord, holderIn, kindIn, headOf, announcementOf}
+use Rattle.cells.specs.Layout.{stateInWord, holderIn, headOf, announcementOf}
 use Rattle.cells.specs.Statement.{CellFits}
 use Rattle.cells.specs.declared.head.Head.the-variants as head
 use Rattle.cells.specs.declared.announcement.Announcement.the-variants as content
@@ -42,7 +42,7 @@ use Rattle.stepping.specs.Call.{startSaid, beginSaid, stepSaid, startOf,
 use Rattle.stepping.specs.Access.{accessOf, givenBack}
 use Rattle.stepping.specs.Runs.{Store, runOf}
 use Rattle.stepping.specs.Opening.{Opening, objectIn, shown, startStore}
-use Rattle.stepping.specs.Print.{Print, Shows}
+use Rattle.stepping.specs.Print.{EmptyAt, Print, Shows}
 use Rattle.stepping.specs.Lent.{Memory, Places, storeAt, LentCall, LentStart, RunOpened, serveLent, Around, SameRun}
 
 -- ---- The access rule, for all arguments
@@ -312,19 +312,19 @@ Carried {file} {q = q} o d = CarriedAlong file (o .shape) q (shown o) (d .book)
 
 -- ---- Every point of a run
 
--- What a print tells, after the opening and after each call, a refused one too: over the one book of the demands.
+-- What may be read in a print, after the opening and after each call, a refused one too: with the order of the book of the demands.
 abbrev pub Prints : {file : List ℕ} {n q : ℕ} {s : Store} (o : Opening file n q s) → Demands o → Type 0
 Prints {n = n} {q = q} o d = (xs : List Call) → Print (objectIn o) n q (shown o .cells xs) (shown o .history xs) (d .book xs .order)
 
--- So a task that the cells show, by its announcement, a mark or the holder, has a changing operation pending.
+-- It follows that a task which the cells show, by its announcement, a mark or the holder, has a changing operation pending.
 abbrev pub ShownChanges : {file : List ℕ} {n q : ℕ} {s : Store} → Opening file n q s → Type 0
-ShownChanges {n = n} o = (xs : List Call) (t : ℕ) → Shows n (shown o .cells xs) t → Changes (objectIn o) (pending (shown o .history xs) t)
+ShownChanges o = (xs : List Call) (t : ℕ) → Shows (shown o .cells xs) t → Changes (objectIn o) (pending (shown o .history xs) t)
 
--- And one whose operation has made a step is shown so: the kind in its announcement isn't 0.
+-- A task whose operation has made a step is shown by its announcement.
 abbrev pub StaysAnnounced : {file : List ℕ} {n q : ℕ} {s : Store} → Opening file n q s → Type 0
-StaysAnnounced o = (xs : List Call) (t x k : ℕ) → pending (shown o .history xs) t ≡ Pends x (k + 1) → kindIn (getD (shown o .cells xs) (t + 1) 0) ≢ 0
+StaysAnnounced o = (xs : List Call) (t x k : ℕ) → pending (shown o .history xs) t ≡ Pends x (k + 1) → EmptyAt (shown o .cells xs) t → ⊥
 
--- The book's state is the one that its order has reached, and the head shows it.
+-- The book's state is the one that its order has reached; so the head shows it.
 abbrev pub StateReached : {file : List ℕ} {n q : ℕ} {s : Store} (o : Opening file n q s) → Demands o → Type 0
 StateReached {q = q} o d =
     (xs : List Call) → (d .book xs .state ≡ reached (objectIn o) q (d .book xs .order)) × (stateInWord (getD (shown o .cells xs) 0 0) ≡ d .book xs .state)
@@ -362,10 +362,6 @@ pub record LastStep {file : List ℕ} {n q : ℕ} {s : Store} (o : Opening file 
 
 abbrev pub Endings : {file : List ℕ} {n q : ℕ} {s : Store} → Opening file n q s → Type 0
 Endings o = (xs : List Call) (t x k : ℕ) → pending (shown o .history xs) t ≡ Pends x k → LastStep o xs t x
-
--- The kind in the announcement of task t is 0.
-abbrev pub EmptyAt : List ℕ → ℕ → Type 0
-EmptyAt cells t = kindIn (getD cells (t + 1) 0) ≡ 0
 
 -- The step that empties the announcement of a task is the one that ends its changing operation, and no other call empties it.
 abbrev pub Emptied : {file : List ℕ} {n q : ℕ} {s : Store} → Opening file n q s → Type 0

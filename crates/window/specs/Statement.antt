@@ -184,7 +184,7 @@ abbrev pub ServedOnce : List ℕ → WindowStore → Type 0
 ServedOnce file l = (t : ℕ) → callAt (Served t) (happen file (Served t) l) ≡ []
 
 -- So demands 2 and 3 hold of runs with windows, at the calls that the events come to: at every point the next direct call is answered, and the
--- cells are, as the run shows, at a point of rest the cells are the image of the book's state, and at every point they tell what a print tells.
+-- cells are, as the run shows; at a point of rest the cells are the image of the book's state, and at every point they are as a print may be read.
 pub record AlongWindows {file : List ℕ} {n q : ℕ} {s : Store} (o : Opening file n q s) (d : Demands o) (windows : List ℕ) (es : List WindowEvent) : Type 0 where
   pub answers : (x : Call) → serveOf file x (after file es (opened s windows) .store) .answer ≡ shown o .answer (callsOf file es (opened s windows)) x
   pub cells : after file es (opened s windows) .store .cells ≡ shown o .cells (callsOf file es (opened s windows))

@@ -11,7 +11,7 @@ use Rattle.machine.specs.Memory.{Empty}
 use Rattle.machine.specs.Kind.{Kind, Off, Reading, Opening, Looping, Exiting, Retracting, kind, off}
 use Rattle.machine.specs.Run.{start, run, history}
 use Rattle.machine.specs.Calls.{Call}
-use Rattle.machine.specs.History.{Reads, Pends, pending}
+use Rattle.machine.specs.History.{Quiet, Pends, pending}
 use Rattle.machine.specs.Invariant.{content}
 use Rattle.machine.specs.Form.{OperationFormed}
 use Rattle.machine.proofs.Book.Progress.{announced}
@@ -34,7 +34,7 @@ mid-work b n q good xs = record {
     s : Sound b n (run b n xs (start q)) (bookOf b n q xs)
     s = sound b n q good xs
 
-    trace : (t : ℕ) → Reads b (pending (history b n xs (start q)) t) → NoTrace (run b n xs (start q) .memory) t
+    trace : (t : ℕ) → Quiet b (pending (history b n xs (start q)) t) → NoTrace (run b n xs (start q) .memory) t
     trace t r = no-trace b n _ (s .safe) (s .formed) t (rw (pending-is b n xs q t) at r)
 
 -- An operation that has made a step has announced itself, and stays announced.

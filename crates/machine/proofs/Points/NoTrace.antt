@@ -10,7 +10,7 @@ use Rattle.machine.specs.Memory.{Held, Content, Empty, Memory}
 use Rattle.machine.specs.Machine.{Phase, Idle, ReadOnly, Announce, Poll, LoadHead, LinkHead, LoadPriority, LoadOwn, Apply, ReloadApply, LoadHelped, LinkHelped, Validate, HandOver, ReloadHandOver, Release, ReloadRelease, ClearHead, ReloadClear, LoadExit, LinkExit, ClearExit, ReleaseExit, Retract}
 use Rattle.machine.specs.Kind.{Kind, Off, Reading, Opening, Looping, Exiting, Retracting, kind, off, calm}
 use Rattle.machine.specs.Run.{Config}
-use Rattle.machine.specs.History.{Nothing, Pends, Reads}
+use Rattle.machine.specs.History.{Nothing, Pends, Quiet}
 use Rattle.machine.specs.Invariant.{headValue, content, OwnContent, Unlinked, NoMark, TaskSafe, Safe}
 use Rattle.machine.specs.Form.{OperationFormed, Formed}
 use Rattle.machine.proofs.Points.Pending.{pendingOf}
@@ -50,7 +50,7 @@ calm-no-trace m i o (Retract v) e s = clash e refl
 
 module _ (b : Object) where
   -- A pending operation that is reading is in its only phase.
-  reads-calm : (d : Kind) (o s : ℕ) → OperationFormed b d o s → Reads b (cond (off d) Nothing (Pends o s)) → calm d ≡ true
+  reads-calm : (d : Kind) (o s : ℕ) → OperationFormed b d o s → Quiet b (cond (off d) Nothing (Pends o s)) → calm d ≡ true
   reads-calm Off o s y r = refl
   reads-calm Reading o s y r = refl
   reads-calm Opening o s y r = clash (y .1) r
@@ -76,7 +76,7 @@ module _ (b : Object) where
         go (yes h) = formed .task t h .operation
         go (no h) = rw (formed .untouched t h) (refl, refl)
 
-    pub no-trace : (t : ℕ) → Reads b (pendingOf (c .task t)) → NoTrace (c .memory) t
+    pub no-trace : (t : ℕ) → Quiet b (pendingOf (c .task t)) → NoTrace (c .memory) t
     no-trace t r = calm-no-trace (c .memory) t (c .task t .operation) (c .task t .phase) (reads-calm (kind (c .task t .phase)) (c .task t .operation) (c .task t .steps) (operation-formed t) r) (safe .each t)
 
     -- The task of an announcement that isn't empty.

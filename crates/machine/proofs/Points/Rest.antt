@@ -9,7 +9,7 @@ use Rattle.machine.specs.Lawful.{Opens}
 use Rattle.machine.specs.Memory.{HeadValue, Free, Held, Memory, stateOf, image}
 use Rattle.machine.specs.Run.{start, run, history}
 use Rattle.machine.specs.Calls.{Call}
-use Rattle.machine.specs.History.{Reads, Rest}
+use Rattle.machine.specs.History.{Quiet, Rest}
 use Rattle.machine.specs.Invariant.{headValue, HolderAnnounces}
 use Rattle.machine.proofs.Points.Pending.{pendingOf, pending-is}
 use Rattle.machine.proofs.Points.NoTrace.{NoTrace, no-trace}
@@ -35,7 +35,7 @@ module _ (b : Object) (n q : ℕ) (good : Opens b q) (xs : List Call) where
       s : Sound b n (run b n xs (start q)) (bookOf b n q xs)
       s = sound b n q good xs
 
-      reads : (t : ℕ) → Reads b (pendingOf (run b n xs (start q) .task t))
+      reads : (t : ℕ) → Quiet b (pendingOf (run b n xs (start q) .task t))
       reads t = rw (pending-is b n xs q t) at (r t)
 
 -- Two points of rest, of two lists and even of two objects: the cells are equal exactly if the states are.
