@@ -3,6 +3,7 @@
 use crate::cells::Announcement;
 use crate::configuration::{Call, CallAnswer, Configuration};
 use crate::machine::Answer;
+use crate::mid_work::Pending;
 use crate::phase::Phase;
 use crate::refusal::Refusal;
 use crate::reply::Reply;
@@ -39,6 +40,8 @@ pub struct Book {
     pub state: usize,
     pub order: Vec<Begun>,
     pub tasks: Vec<Status>,
+    /// What each task has pending, by the calls and answers that were booked.
+    pub pending: Pending,
     calls: usize,
 }
 
@@ -48,6 +51,7 @@ impl Book {
             state: table.start,
             order: Vec::new(),
             tasks: vec![Status::Idle; tasks],
+            pending: Pending::none(tasks),
             calls: 0,
         }
     }
@@ -58,6 +62,7 @@ impl Book {
             state: usize::from(point.state()),
             order: Vec::new(),
             tasks: (0..point.tasks).map(|task| status_of(point, task)).collect(),
+            pending: Pending::of_records(point),
             calls: 0,
         }
     }
@@ -87,12 +92,13 @@ impl Book {
             Call::Begin { task, operation } => self.book_begin(table, task, operation, place),
             Call::Step { task } => self.book_step(task, answer),
         };
-        match allowed == answer {
-            true => Ok(()),
-            false => Err(format!(
+        if allowed != answer {
+            return Err(format!(
                 "book: {call:?} answers {answer:?}, the book has {allowed:?}"
-            )),
+            ));
         }
+        self.pending.note(call, answer);
+        Ok(())
     }
 
     fn book_begin(&mut self, table: &Table, task: usize, operation: usize, place: usize) -> CallAnswer {
@@ -158,15 +164,19 @@ impl Book {
         }
     }
 
-    /// The book's state and its tasks are those of the point.
+    /// The book's state, its tasks and what they have pending are those of the point.
     pub fn agrees_with(&self, point: &Configuration) -> Result<(), String> {
         self.agrees_with_book(&Book::of(point))
     }
 
-    /// State and tasks are those of another book, which a point shows.
+    /// State, tasks and what they have pending are those of another book, which a point shows.
     pub fn agrees_with_book(&self, shown: &Book) -> Result<(), String> {
         if self.state != shown.state {
             return Err(format!("book: state {}, head: {}", self.state, shown.state));
+        }
+        if self.pending != shown.pending {
+            let (pending, shown) = (self.pending, shown.pending);
+            return Err(format!("book: {pending:?}, the records show {shown:?}"));
         }
         for (task, (&status, &shown)) in self.tasks.iter().zip(&shown.tasks).enumerate() {
             if without_place(status) != without_place(shown) {

@@ -52,7 +52,7 @@ impl Configuration {
     pub fn make(&mut self, rules: Rules, table: &Table, call: Call) -> CallAnswer {
         let (cells, row) = self.parts_mut();
         match call {
-            Call::Begin { task, operation } => calls::begin(table, row, task, operation).map(|()| None),
+            Call::Begin { task, operation } => rules.begin(table, row, task, operation).map(|()| None),
             Call::Step { task } => rules.step(table, cells, row, task).map(Some),
         }
     }

@@ -82,8 +82,7 @@ impl Graph {
     /// Explores by what makes and checks a call.
     pub fn explore_by(system: System, tasks: usize, make: &Make) -> Result<Graph, String> {
         assert!(tasks <= MOST_EXPLORED_TASKS);
-        let start = Configuration::started(system.table, tasks)
-            .map_err(|refusal| format!("start answers {}", refusal.number()))?;
+        let start = system.start(tasks)?;
         let mut graph = Graph {
             tasks,
             points: Vec::new(),
@@ -211,7 +210,8 @@ fn hash(packed: &Packed) -> u64 {
 #[cfg(test)]
 mod tests {
     use super::*;
-    use crate::objects::explored_objects;
+    use crate::objects::{explored_objects, still_object, Object};
+    use crate::rules::Rules;
 
     #[test]
     fn points_are_unpacked_as_they_were_packed() {
@@ -233,6 +233,39 @@ mod tests {
         for object in explored_objects() {
             let graph = Graph::explore(object.system(), 1).expect(object.name);
             assert!(graph.count_transitions() >= graph.count_points());
+        }
+    }
+
+    /// A begin and a step that are refused for each task, and two for a task that isn't there.
+    fn refused_calls(point: &Configuration, operations: usize) -> Vec<Call> {
+        let begin = |task, operation| Call::Begin { task, operation };
+        let of_task = |task: usize| match point.record(task).is_pending() {
+            true => [begin(task, 0), begin(task, operations)],
+            false => [Call::Step { task }, begin(task, operations)],
+        };
+        let task = point.tasks;
+        let out_of_range = [begin(task, 0), Call::Step { task }];
+        (0..task).flat_map(of_task).chain(out_of_range).collect()
+    }
+
+    fn assert_refused_calls_keep_points(object: &Object, tasks: usize) {
+        let graph = Graph::explore(object.system(), tasks).unwrap();
+        for number in 0..graph.count_points() {
+            let before = graph.point(number);
+            for call in refused_calls(&before, object.table.operations) {
+                let mut after = before;
+                assert!(after.make(Rules::MACHINE, &object.table, call).is_err());
+                assert_eq!(after, before);
+            }
+        }
+    }
+
+    /// So what holds at the points that are explored also holds after a refused call.
+    #[test]
+    fn a_refused_call_leaves_every_point_as_it_is() {
+        assert_refused_calls_keep_points(&still_object(), 2);
+        for object in explored_objects() {
+            assert_refused_calls_keep_points(&object, 1);
         }
     }
 }

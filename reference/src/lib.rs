@@ -29,6 +29,7 @@ pub mod long_operations;
 mod longest;
 mod longest_path;
 pub mod machine;
+mod mid_work;
 mod objects;
 mod opening;
 mod packed_point;

@@ -5,6 +5,7 @@ use std::collections::{HashMap, HashSet};
 use crate::book::{Begun, Book};
 use crate::configuration::{Call, CallAnswer, Configuration};
 use crate::machine::Answer;
+use crate::mid_work::check_state;
 use crate::random::Random;
 use crate::reply::Reply;
 use crate::table::Table;
@@ -23,9 +24,15 @@ pub struct Findings {
     pub most_own_steps: u32,
 }
 
-/// Makes a number of calls, checks each, and at the end replays the order.
+/// Makes a number of calls and checks each, the head's state by a replay of the order too; at the end the order is checked.
 pub fn run(system: System, tasks: usize, calls: usize, seed: u64) -> Result<Findings, String> {
-    let make = |before: &Configuration, call, book: &mut Book| system.make_checked(before, call, book);
+    let mut replay = Replay::new(system.table);
+    let make = |before: &Configuration, call, book: &mut Book| {
+        let (after, answer) = system.make_checked(before, call, book)?;
+        replay.go_on(system.table, &book.order);
+        check_state(replay.reached, after.cells())?;
+        Ok((after, answer))
+    };
     run_by(system, tasks, calls, seed, make)
 }
 
@@ -35,11 +42,10 @@ pub fn run_by(
     tasks: usize,
     calls: usize,
     seed: u64,
-    make: impl Fn(&Configuration, Call, &mut Book) -> Checked,
+    mut make: impl FnMut(&Configuration, Call, &mut Book) -> Checked,
 ) -> Result<Findings, String> {
     let table = system.table;
-    let mut point = Configuration::started(table, tasks)
-        .map_err(|refusal| format!("start answers {}", refusal.number()))?;
+    let mut point = system.start(tasks)?;
     let mut book = Book::new(table, tasks);
     let mut schedule = Schedule::new(system, tasks, seed);
     let mut history = History::new(tasks);
@@ -56,6 +62,29 @@ pub fn run_by(
         ended: history.ended.len(),
         most_own_steps: history.most_own_steps,
     })
+}
+
+/// The state that a growing order has reached from the start state.
+struct Replay {
+    reached: usize,
+    /// How many operations of the order have been replayed.
+    replayed: usize,
+}
+
+impl Replay {
+    fn new(table: &Table) -> Replay {
+        Replay {
+            reached: table.start,
+            replayed: 0,
+        }
+    }
+
+    fn go_on(&mut self, table: &Table, order: &[Begun]) {
+        for begun in &order[self.replayed..] {
+            self.reached = usize::from(table.entry(self.reached, begun.operation).next);
+        }
+        self.replayed = order.len();
+    }
 }
 
 /// Chooses calls: single steps in turn, bursts of one task, tasks that stop for a long time, refused calls.

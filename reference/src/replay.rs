@@ -1,7 +1,6 @@
 //! A schedule made again from the start, every call checked.
 
 use crate::book::Book;
-use crate::configuration::Configuration;
 use crate::machine::Answer;
 use crate::reduced::Chase;
 use crate::table::Table;
@@ -25,8 +24,7 @@ pub fn replay(
     if calls.iter().any(|&task| usize::from(task) >= tasks) {
         return Err("the schedule names a task that is not there".to_string());
     }
-    let mut point = Configuration::started(table, tasks)
-        .map_err(|refusal| format!("start answers {}", refusal.number()))?;
+    let mut point = system.start(tasks)?;
     let mut book = Book::new(table, tasks);
     let mut last = None;
     for (place, &task) in calls.iter().enumerate() {

@@ -1,10 +1,13 @@
 //! The rules that tasks follow: those of the machine, or wrong ones, which the explorer must find.
 
-use crate::calls::step_by;
+use crate::calls::{self, step_by};
 use crate::machine::{self, Access, Answer, Outcome};
 use crate::record::Record;
 use crate::refusal::Refusal;
 use crate::table::Table;
+
+/// How a begin changes the row.
+pub type Begin = fn(&Table, &mut [Record], usize, usize) -> Result<(), Refusal>;
 
 /// How the access follows from the record.
 pub type Plan = fn(&Table, usize, &Record) -> Access;
@@ -14,15 +17,27 @@ pub type Advance = fn(&Table, usize, usize, &Record, Outcome) -> (Record, Answer
 
 #[derive(Clone, Copy)]
 pub struct Rules {
+    pub begin: Begin,
     pub plan: Plan,
     pub advance: Advance,
 }
 
 impl Rules {
     pub const MACHINE: Rules = Rules {
+        begin: calls::begin,
         plan: machine::plan,
         advance: machine::advance,
     };
+
+    pub fn begin(
+        self,
+        table: &Table,
+        row: &mut [Record],
+        task: usize,
+        operation: usize,
+    ) -> Result<(), Refusal> {
+        (self.begin)(table, row, task, operation)
+    }
 
     pub fn step(
         self,

@@ -1,11 +1,12 @@
-//! What is checked at every transition: answer, invariant, book, what the cells carry, rest image, potential, and which
-//! call empties an announcement.
+//! What is checked at every transition: answer, invariant, book, what the cells carry, rest image, potential, which call
+//! empties an announcement, and the facts of mid-work.
 
 use crate::book::{entered_before, Book};
 use crate::ceiling::ceiling;
 use crate::configuration::{Call, CallAnswer, Configuration};
 use crate::invariant;
 use crate::machine::Answer;
+use crate::mid_work::{self, Pending};
 use crate::potential::{at_begin, potential};
 use crate::refusal::Refusal;
 use crate::rules::Rules;
@@ -34,6 +35,15 @@ impl<'a> System<'a> {
 }
 
 impl System<'_> {
+    /// The point after the start, with the facts of mid-work checked.
+    pub fn start(&self, tasks: usize) -> Result<Configuration, String> {
+        let point = Configuration::started(self.table, tasks)
+            .map_err(|refusal| format!("start answers {}", refusal.number()))?;
+        let nothing = Pending::none(tasks);
+        mid_work::check(self.table, &nothing, self.table.start, point.cells())?;
+        Ok(point)
+    }
+
     /// Makes a call and checks all that must hold; the book is carried along.
     pub fn make_checked(&self, before: &Configuration, call: Call, book: &mut Book) -> Checked {
         let made = self.make(before, call);
@@ -43,6 +53,7 @@ impl System<'_> {
         book.check_carried(&made.after)?;
         book.agrees_with(&made.after)?;
         made.check_potentials()?;
+        mid_work::check(self.table, &book.pending, book.state, made.after.cells())?;
         Ok((made.after, made.answer))
     }
 
