@@ -74,6 +74,8 @@ pub mod window_twin;
 #[cfg(test)]
 mod wrong_builds;
 #[cfg(test)]
+mod wrong_prints;
+#[cfg(test)]
 mod wrong_replies;
 #[cfg(test)]
 mod wrong_rules;

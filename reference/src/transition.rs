@@ -72,22 +72,32 @@ impl System<'_> {
 
 /// A call that was made: the points before and after it, and its answer.
 pub struct Transition<'a> {
-    table: &'a Table<'a>,
+    pub table: &'a Table<'a>,
     before: &'a Configuration,
-    call: Call,
+    pub call: Call,
     pub after: Configuration,
     pub answer: CallAnswer,
 }
 
 impl Transition<'_> {
-    /// Refusals, the image at rest, the book's answer and the one step of a reading operation. The ceiling is kept
-    /// because a step past it would be refused with 11.
+    /// The image at rest and the answer.
     pub fn check_service(&self, book: &mut Book) -> Result<(), String> {
+        self.check_rest()?;
+        self.check_answer(book)
+    }
+
+    pub fn check_rest(&self) -> Result<(), String> {
+        match self.after.is_at_rest(self.table) && !self.after.shows_image() {
+            true => Err("the cells at rest are not the image".to_string()),
+            false => Ok(()),
+        }
+    }
+
+    /// Refusals, the book's answer and the one step of a reading operation. The ceiling is kept because a step past it
+    /// would be refused with 11.
+    pub fn check_answer(&self, book: &mut Book) -> Result<(), String> {
         if let Err(refusal) = self.answer {
             check_refusal(self.before, &self.after, refusal)?;
-        }
-        if self.after.is_at_rest(self.table) && !self.after.shows_image() {
-            return Err("the cells at rest are not the image".to_string());
         }
         if let Some(task) = entered_before(self.before, self.call) {
             book.enter(self.table, task)?;

@@ -21,44 +21,6 @@ fn redirected(table: &Table, tasks: usize, task: usize, old: &Record, outcome: O
 }
 
 #[test]
-fn an_exit_that_keeps_its_mark_on_the_head() {
-    fn wrong(table: &Table, tasks: usize, task: usize, old: &Record, outcome: Outcome) -> Step {
-        let right = machine::advance(table, tasks, task, old, outcome);
-        match right.0.known_phase() {
-            Phase::ReleaseExit => redirected(table, tasks, task, old, outcome, Phase::Retract),
-            _ => right,
-        }
-    }
-    assert_found(wrong, "invariant: T2");
-}
-
-#[test]
-fn an_end_with_the_mark_still_in_another_announcement() {
-    fn wrong(table: &Table, tasks: usize, task: usize, old: &Record, outcome: Outcome) -> Step {
-        let right = machine::advance(table, tasks, task, old, outcome);
-        match (old.known_phase(), right.0.known_phase()) {
-            (Phase::Validate(_), Phase::Release(_)) => {
-                redirected(table, tasks, task, old, outcome, Phase::Poll)
-            }
-            _ => right,
-        }
-    }
-    assert_found(wrong, "invariant: T2");
-}
-
-#[test]
-fn an_announcement_emptied_before_the_head_has_dropped_the_response() {
-    fn wrong(table: &Table, tasks: usize, task: usize, old: &Record, outcome: Outcome) -> Step {
-        let right = machine::advance(table, tasks, task, old, outcome);
-        match (old.known_phase(), right.0.known_phase()) {
-            (Phase::Poll, Phase::LoadExit) => redirected(table, tasks, task, old, outcome, Phase::Retract),
-            _ => right,
-        }
-    }
-    assert_found(wrong, "invariant: G1");
-}
-
-#[test]
 fn a_failed_link_that_does_not_look_for_the_response() {
     fn wrong(table: &Table, tasks: usize, task: usize, old: &Record, outcome: Outcome) -> Step {
         match (old.known_phase(), outcome) {
@@ -186,4 +148,5 @@ fn a_hand_over_given_up_while_the_mark_stands() {
         }
     }
     assert_found(wrong, "invariant: T2");
+    wrong_builds::assert_broken(advancing(wrong), 2, "fact 2");
 }

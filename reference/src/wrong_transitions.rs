@@ -15,30 +15,7 @@ use crate::reply::Reply;
 use crate::rules::{Advance, Rules};
 use crate::table::Table;
 use crate::transition::{Checked, System};
-use crate::wrong_builds::{advancing, assert_found, explored_object, finding};
-
-/// The right machine, but for the record that it leaves. A rule is given the task, its phase, its record with this step
-/// counted, what the access gave back, and the right record.
-macro_rules! leaving {
-    ($rule:expr) => {{
-        fn wrong(
-            table: &Table,
-            tasks: usize,
-            task: usize,
-            old: &Record,
-            outcome: Outcome,
-        ) -> (Record, Answer) {
-            let rule: fn(usize, Phase, Record, Outcome, Record) -> Record = $rule;
-            let (right, answer) = machine::advance(table, tasks, task, old, outcome);
-            let counted = Record {
-                steps: old.steps + 1,
-                ..*old
-            };
-            (rule(task, old.known_phase(), counted, outcome, right), answer)
-        }
-        advancing(wrong)
-    }};
-}
+use crate::wrong_builds::{advancing, assert_broken, assert_found, explored_object, finding, leaving};
 
 #[test]
 fn a_failed_link_of_a_helped_announcement_tried_again_at_once() {
@@ -65,6 +42,7 @@ fn a_failed_release_given_up() {
         _ => right,
     });
     assert_found(wrong, 2, "invariant: T2");
+    assert_broken(wrong, 2, "fact 2");
 }
 
 #[test]
@@ -74,9 +52,11 @@ fn an_exit_that_retracts_though_its_release_failed() {
         _ => right,
     });
     assert_found(wrong, 2, "invariant: T2");
+    assert_broken(wrong, 2, "fact 2");
 }
 
-/// With two tasks it does no harm: only the other one can have changed the head, by a clear.
+/// With two tasks it does no harm: only the other one can have changed the head, by a clear. A task whose clear failed may
+/// have its mark in the head too, which is seen first.
 #[test]
 fn an_exit_that_retracts_though_its_clear_or_its_link_failed() {
     let clear = leaving!(|_, phase, own, outcome, right| match (phase, outcome) {
@@ -87,9 +67,10 @@ fn an_exit_that_retracts_though_its_clear_or_its_link_failed() {
         (Phase::LinkExit, Outcome::Swapped(false)) => own.with_payload_in(Phase::Retract),
         _ => right,
     });
-    for wrong in [clear, link] {
+    for (wrong, fact) in [(clear, "fact 2"), (link, "fact 3")] {
         assert_eq!(finding(wrong, 2), "nothing");
         assert_found(wrong, 3, "invariant: G1");
+        assert_broken(wrong, 3, fact);
     }
 }
 
