@@ -12,10 +12,12 @@ use crate::lines::{parse_line, split_lines, Line};
 use crate::machine::Answer;
 use crate::record::Record;
 use crate::refusal::Refusal;
+use crate::rules::Rules;
 use crate::table::{Table, MOST_FILE_BYTES};
 
 pub struct Bench<'a> {
     table: Table<'a>,
+    rules: Rules,
     run: Option<Run>,
 }
 
@@ -72,7 +74,11 @@ pub fn text_of(printed: Printed) -> String {
 impl<'a> Bench<'a> {
     pub fn new(file: &'a [u8]) -> Result<Bench<'a>, Refusal> {
         let table = Table::check(file)?.with_changing_noted();
-        Ok(Bench { table, run: None })
+        Ok(Bench {
+            table,
+            rules: Rules::MACHINE,
+            run: None,
+        })
     }
 
     /// Serves one line and gives what it prints.
@@ -83,14 +89,15 @@ impl<'a> Bench<'a> {
     /// Serves one line.
     pub fn try_to_serve(&mut self, line: &[u8]) -> Printed {
         let line = parse_line(line).ok_or(Refusal::Line)?;
+        let (table, rules) = (&self.table, self.rules);
         match (line, &mut self.run) {
             (Line::Start { tasks }, _) => self.start(tasks),
             (_, None) => Err(Refusal::Line),
             (Line::Begin { task, operation }, Some(run)) => {
-                calls::begin(&self.table, &mut run.row, task, operation).map(|()| None)
+                rules.begin(table, &mut run.row, task, operation).map(|()| None)
             }
-            (Line::Step { task }, Some(run)) => run.step(&self.table, task),
-            (Line::Drive { task }, Some(run)) => run.drive(&self.table, task),
+            (Line::Step { task }, Some(run)) => run.step(rules, table, task),
+            (Line::Drive { task }, Some(run)) => run.drive(rules, table, task),
             (Line::Print, Some(run)) => Ok(Some(run.print())),
         }
     }
@@ -129,9 +136,17 @@ impl<'a> Bench<'a> {
     }
 }
 
+#[cfg(test)]
+impl Bench<'_> {
+    /// The bench of a wrong build.
+    pub fn with_rules(self, rules: Rules) -> Self {
+        Bench { rules, ..self }
+    }
+}
+
 impl Run {
-    fn step(&mut self, table: &Table, task: usize) -> Printed {
-        match calls::step(table, &mut self.cells, &mut self.row, task)? {
+    fn step(&mut self, rules: Rules, table: &Table, task: usize) -> Printed {
+        match rules.step(table, &mut self.cells, &mut self.row, task)? {
             Answer::Running => Ok(None),
             Answer::Ended { response, moved, .. } => {
                 let moved = u8::from(moved);
@@ -141,9 +156,9 @@ impl Run {
     }
 
     /// An operation ends, or is refused, before the turns are used up.
-    fn drive(&mut self, table: &Table, task: usize) -> Printed {
+    fn drive(&mut self, rules: Rules, table: &Table, task: usize) -> Printed {
         for _ in 0..=ceiling(self.row.len())? {
-            let printed = self.step(table, task)?;
+            let printed = self.step(rules, table, task)?;
             if printed.is_some() {
                 return Ok(printed);
             }

@@ -43,7 +43,7 @@ pub fn compare_bench(path: &str, random_scripts: u64) -> Result<String, String> 
 }
 
 /// Makes the script's folder.
-fn make_folder(folder: &Path, script: &Script) -> Result<(), String> {
+pub fn make_folder(folder: &Path, script: &Script) -> Result<(), String> {
     let made = fs::create_dir_all(folder).and_then(|()| {
         if let Some(table) = &script.table {
             fs::write(folder.join("table.bin"), table)?;
@@ -68,6 +68,6 @@ fn is_equal(program: &Path, folder: &Path, piece: Option<usize>) -> Result<bool,
     Ok(equal)
 }
 
-fn remove(folder: &Path) -> Result<(), String> {
+pub fn remove(folder: &Path) -> Result<(), String> {
     fs::remove_dir_all(folder).map_err(|error| error.to_string())
 }

@@ -2,6 +2,11 @@
 //! library, to compare the two.
 
 mod advance;
+pub mod audit;
+pub mod audit_bench;
+mod audit_cases;
+#[cfg(test)]
+mod audit_tests;
 pub mod bench;
 mod book;
 pub mod calls;
@@ -34,7 +39,9 @@ mod objects;
 mod opening;
 mod packed_point;
 mod phase;
+mod plain_books;
 pub mod potential;
+pub mod printed;
 mod process;
 pub mod random;
 mod random_runs;

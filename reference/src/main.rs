@@ -4,6 +4,7 @@ use std::io::Read;
 use std::path::Path;
 use std::process::ExitCode;
 
+use reference::audit_bench::{audit_bench, AUDITED_SCRIPTS};
 use reference::compare_bench::{compare_bench, RANDOM_SCRIPTS};
 use reference::compare_tables::{compare_tables, GENERATED_TABLES};
 use reference::listings::{check_listings, write_listings};
@@ -17,6 +18,7 @@ const USAGE: &str = "usage: reference check-table < FILE
        reference bench < LINES
        reference trace TABLE LINES
        reference compare-bench PATH_TO_bench [COUNT]
+       reference audit-bench PATH_TO_bench [COUNT]
        reference listings CRATES [--check]
        reference kernel";
 
@@ -39,6 +41,10 @@ fn main() -> ExitCode {
         ["compare-bench", program] => compare_bench(program, RANDOM_SCRIPTS).map(print_line),
         ["compare-bench", program, count] => {
             number(count).and_then(|count| compare_bench(program, count).map(print_line))
+        }
+        ["audit-bench", program] => audit_bench(program, AUDITED_SCRIPTS).map(print_line),
+        ["audit-bench", program, count] => {
+            number(count).and_then(|count| audit_bench(program, count).map(print_line))
         }
         ["listings", crates] => write_listings(crates).map(print_line),
         ["listings", crates, "--check"] => check_listings(crates).map(print_line),

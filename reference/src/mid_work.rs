@@ -34,10 +34,18 @@ impl Pending {
     /// An accepted begin opens an operation, a step that answers ended closes it.
     pub fn note(&mut self, call: Call, answer: CallAnswer) {
         match (call, answer) {
-            (Call::Begin { task, operation }, Ok(_)) => self.operations[task] = Some(operation),
-            (Call::Step { task }, Ok(Some(Answer::Ended { .. }))) => self.operations[task] = None,
+            (Call::Begin { task, operation }, Ok(_)) => self.begin(task, operation),
+            (Call::Step { task }, Ok(Some(Answer::Ended { .. }))) => self.end(task),
             _ => {}
         }
+    }
+
+    pub fn begin(&mut self, task: usize, operation: usize) {
+        self.operations[task] = Some(operation);
+    }
+
+    pub fn end(&mut self, task: usize) {
+        self.operations[task] = None;
     }
 
     /// The task's operation; a task that isn't below n never has one.
@@ -123,10 +131,6 @@ mod tests {
     const READ: usize = 0;
     const SET: usize = 1;
 
-    fn begun(pending: &mut Pending, task: usize, operation: usize) {
-        pending.note(Call::Begin { task, operation }, Ok(None));
-    }
-
     fn ended() -> CallAnswer {
         Ok(Some(Answer::Ended {
             response: 0,
@@ -138,8 +142,8 @@ mod tests {
     /// Of three tasks, 0 sets, 1 reads and 2 is idle.
     fn pending() -> Pending {
         let mut pending = Pending::none(3);
-        begun(&mut pending, 0, SET);
-        begun(&mut pending, 1, READ);
+        pending.begin(0, SET);
+        pending.begin(1, READ);
         pending
     }
 

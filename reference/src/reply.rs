@@ -1,7 +1,7 @@
 //! What an operation that ends answers beside its count: a response, and whether the state moved.
 
 /// Both come from the table's entry that was used: its response, and whether its next state is another than its own.
-#[derive(Clone, Copy, Debug, PartialEq, Eq, Default)]
+#[derive(Clone, Copy, Debug, PartialEq, Eq, PartialOrd, Ord, Default)]
 pub struct Reply {
     pub response: u16,
     pub moved: bool,
