@@ -264,6 +264,23 @@ fn a_refused_line_prints_its_number_and_an_accepted_begin_nothing() {
     }
 }
 
+/// Task 2 reads throughout. Task 1 has linked the head while task 0 held it, and helps late: line 54 shows its mark in the
+/// announcement that task 0 has emptied.
+#[test]
+fn the_stored_listing_in_mid_work_shows_what_it_is_for() {
+    let path = concat!(env!("CARGO_MANIFEST_DIR"), "/../crates/listing_mid_work/stdin");
+    let listing = Script::served_by(Rules::MACHINE, &std::fs::read(path).unwrap());
+    assert_eq!(listing.cells(54), [0x100, 2, 0x0002_0100, 0]);
+    let seen = Seen {
+        prints: 49,
+        with_holder: 20,
+        quiet_beside_busy: 44,
+        empty_with_mark: 1,
+        with_reader: 47,
+    };
+    assert_eq!(listing.audit(), Ok(seen));
+}
+
 /// The facts that the auditor finds broken in some scripts of a build, and in how many of 100 scripts it finds one.
 fn broken_by(rules: Rules) -> (BTreeSet<String>, usize) {
     let file = TableFile::flag().to_bytes();

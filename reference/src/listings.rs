@@ -79,6 +79,7 @@ fn bench_tables() -> Vec<(&'static str, Option<TableFile>)> {
         ("listing_dimensions", Some(start_too_high)),
         ("listing_forms", Some(flag())),
         ("listing_marks", Some(flag())),
+        ("listing_mid_work", Some(flag())),
         ("listing_next_state", Some(last_leads_out)),
         ("listing_no_table", None),
         ("listing_spare_state", Some(TableFile::spare_state())),

@@ -202,12 +202,14 @@ impl Books<'_> {
         self.books.retain(|book| book.shows(pages));
         let reached = BTreeSet::from_iter(self.books.iter().map(|book| book.state));
         self.books.retain(|book| book.state == state);
-        match self.books.is_empty() {
-            true => Err(format!(
-                "fact 4: cell 0 has state {state}; by the answers and by what the cells show of each operation the order \
-                 has reached one of {reached:?}"
+        match (self.books.is_empty(), reached.is_empty()) {
+            (false, _) => Ok(()),
+            (true, true) => {
+                Err("fact 4: no order agrees with what the cells show of each operation".to_string())
+            }
+            (true, false) => Err(format!(
+                "fact 4: cell 0 has state {state}, the order has reached {reached:?}"
             )),
-            false => Ok(()),
         }
     }
 }

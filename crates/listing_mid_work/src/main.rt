@@ -1,0 +1,3 @@
+fn main() {
+    bench_session::input::serve_all();
+}
