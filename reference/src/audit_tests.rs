@@ -247,6 +247,21 @@ fn a_read_may_have_been_entered_in_every_state_since_its_begin() {
     assert_eq!(read.printing(9, "r 1 0 0").found(9), "fact 4");
 }
 
+/// Task 0 has applied its first set, so in its second operation it helps task 1 before itself: line 13 enters a clear and then
+/// a set. The other way round the state would be 0 after it.
+#[test]
+fn in_a_drive_several_operations_may_be_entered() {
+    let lines = b"n 2\nm\nb 0 1\nm\nd 0\nm\nb 1 2\nm\ns 1\nm\nb 0 1\nm\nd 0\nm\n";
+    let drive = Script::served_by(Rules::MACHINE, lines);
+    assert_eq!(drive.0[12].1.as_deref(), Some("r 0 0 1"));
+    assert_eq!(drive.cells(14), [0x100, 0, 0x0101_0200]);
+    assert!(drive.audit().is_ok());
+    assert_eq!(drive.printing(13, "r 0 1 0").found(14), "fact 4");
+    assert_eq!(drive.altered(14, |cells| cells[0] = 0).found(14), "fact 4");
+    let other_order = drive.printing(13, "r 0 1 0").altered(14, |cells| cells[0] = 0);
+    assert_eq!(other_order.found(14), "nothing");
+}
+
 #[test]
 fn a_refused_line_prints_its_number_and_an_accepted_begin_nothing() {
     let lines = "?\nb 0 0\nn 0\nn 2\nb 2 0\nb 0 3\nb 0 1\nb 0 1\ns 1\nd 2\nn 9\n?\nd 0\nm\n";

@@ -84,7 +84,7 @@ pub fn assert_found(rules: Rules, tasks: usize, reason: &str) {
 pub type Check = fn(&Transition, &mut Book) -> Result<(), String>;
 
 /// Makes a call and has it checked by one check alone.
-pub fn make_by(check: Check, system: System, before: &Configuration, call: Call, book: &mut Book) -> Checked {
+fn make_by(check: Check, system: System, before: &Configuration, call: Call, book: &mut Book) -> Checked {
     let made = system.make(before, call);
     check(&made, book)?;
     Ok((made.after, made.answer))

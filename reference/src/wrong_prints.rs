@@ -26,6 +26,17 @@ pub fn response_keeps_mark() -> Rules {
     })
 }
 
+/// The same with an announcement that is found empty.
+fn empty_keeps_mark() -> Rules {
+    leaving!(|_, phase, own, _, right| {
+        let empty = Announcement::decode(own.announcement) == Announcement::Empty;
+        match (phase, right.known_phase()) {
+            (Phase::LinkHelped(_), Phase::Release(_)) if empty => own.with_head_in(Phase::ClearHead),
+            _ => right,
+        }
+    })
+}
+
 /// The exit retracts with its mark in the head.
 pub fn exit_keeps_mark() -> Rules {
     leaving!(|_, _, _, _, right| match right.known_phase() {
@@ -122,13 +133,15 @@ fn an_end_with_the_mark_still_in_another_announcement_is_found_by_t2_and_fact_2_
     assert_found_alone(validate_keeps_mark(), "T2", "fact 2");
 }
 
+/// In an empty announcement the mark may stand until its owner announces again.
 #[test]
-fn an_exit_that_keeps_its_mark_on_the_head() {
-    let rules = exit_keeps_mark();
-    assert_found(rules, 2, "invariant: T2");
-    assert_broken(rules, 2, "fact 2");
-    assert_said(check_rest, rules, "the cells at rest are not the image");
-    assert_eq!(run_by(check_answer, rules), Ok(()));
+fn an_exit_that_keeps_its_mark_on_the_head_and_a_mark_left_in_an_empty_announcement() {
+    for rules in [exit_keeps_mark(), empty_keeps_mark()] {
+        assert_found(rules, 2, "invariant: T2");
+        assert_broken(rules, 2, "fact 2");
+        assert_said(check_rest, rules, "the cells at rest are not the image");
+        assert_eq!(run_by(check_answer, rules), Ok(()));
+    }
 }
 
 /// At rest the head has no holder: who has handed the response over clears the head before it ends.
