@@ -11,6 +11,7 @@ use lib.ListN.{length, take, length-set}
 use lib.Seq.{length-front}
 use Rattle.laws.proofs.Choice.{choice}
 use Rattle.laws.proofs.Lists.{front-taken}
+use Rattle.table.specs.File.{shapeOf}
 use Rattle.machine.specs.Calls.{Call, Begin, Step}
 use Rattle.stepping.specs.Call.{BeginOutcome, beginOf, StepOutcome, stepOf, taskAt}
 use Rattle.stepping.specs.Opening.{Opening}
@@ -22,13 +23,9 @@ use Rattle.bench_row.specs.First.{firstCount, beginFirst, stepFirst}
 use Rattle.bench_row.proofs.Firsts.{first-few}
 use Rattle.bench_session.specs.declared.run.Bench.{Bench}
 use Rattle.bench_session.specs.declared.run.Handled.{Handled}
-use Rattle.bench_session.specs.Run.{cellCount, beginBench, stepHeld, stepBench, runsOn, finishFrom}
+use Rattle.bench_session.specs.Run.{cellCount, lent, beginBench, stepHeld, stepBench, runsOn, finishFrom}
 
 -- ---- The first cells and records
-
--- What is lent to a call.
-abbrev pub lent : Bench → Store
-lent bench = record { cells = take (cellCount (bench .tasks)) (bench .cells); row = take (firstCount (bench .tasks)) (bench .row) }
 
 -- The bench holds nine cells and nine records.
 pub record NineHeld (bench : Bench) : Type 0 where
@@ -97,7 +94,7 @@ module _ (file : List ℕ) (bench : Bench) (nine : NineHeld bench) where
 -- Before an accepted start there are no tasks; after one the lent cells and records are what the calls since have left.
 pub data Situation (file : List ℕ) (n : ℕ) (s : Store) : Type 0 where
   before : n ≡ 0 → Situation file n s
-  during : {q : ℕ} {first : Store} → Opening file n q first → (xs : List Call) → runOf file xs first ≡ s → Situation file n s
+  during : {first : Store} → Opening file n (shapeOf file .start) first → (xs : List Call) → runOf file xs first ≡ s → Situation file n s
 
 situation-more : {file : List ℕ} {n : ℕ} {s : Store} → Situation file n s → (x : Call) → Situation file n (serveOf file x s .store)
 situation-more (before e) x = before e

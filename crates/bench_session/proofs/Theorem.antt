@@ -26,13 +26,13 @@ use Rattle.bench_row.specs.First.{stepFirst}
 use Rattle.bench_lines.specs.Line.{cellsLine}
 use Rattle.bench_session.specs.declared.run.Bench.{Bench}
 use Rattle.bench_session.specs.declared.run.Handled.{Handled}
-use Rattle.bench_session.specs.Run.{stepReply, stepHeld, stepBench, runsOn, finishFrom, mostTurns, finishBench, serveCommand}
+use Rattle.bench_session.specs.Run.{lent, stepReply, stepHeld, stepBench, runsOn, finishFrom, mostTurns, finishBench, serveCommand}
 use Rattle.bench_session.specs.Statement.{EndsBy, benchAfter, Finishes, WholeOutput, CutAnywhere, ServedUnfinished, PrintsPoint, PrintsPoints}
 use Rattle.bench_session.proofs.Feeds.{feed-parts}
 use Rattle.bench_session.proofs.Outputs.{whole-output, output-unfinished}
 use Rattle.bench_session.proofs.Runs.{finish-more, finish-last, most-turns}
 use Rattle.bench_session.proofs.Openings.{pending-timely, pending-longer}
-use Rattle.bench_session.proofs.Situations.{lent, NineHeld, nine-step, lent-step, Situation, before, during}
+use Rattle.bench_session.proofs.Situations.{NineHeld, nine-step, lent-step, Situation, before, during}
 use Rattle.bench_session.proofs.Consistency.{consistent-after}
 
 -- What a step on the lent cells and records answers.
@@ -142,10 +142,10 @@ prints-points file bytes input some = at (consistent-after file bytes input .sit
 
     at : Situation file (bench .tasks) (lent bench) → PrintsPoint file input
     at (before z) = absurd (some z)
-    at (during {q} {first} o xs same) = record {
-      state = q;
+    at (during {first} o xs same) = record {
       store = first;
       opening = o;
       calls = xs;
+      left = same;
       line = rw (ne-eqb (bench .tasks) 0 some) (ap (λ (z : Store). cellsLine (z .cells)) (sym same));
     }

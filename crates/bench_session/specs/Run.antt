@@ -21,7 +21,8 @@ use Rattle.records.specs.declared.record.Task.{Task}
 use Rattle.stepping.specs.Call as call
 use Rattle.stepping.specs.Call.{StartOutcome, BeginOutcome}
 use Rattle.records.specs.Record.{idleTask}
-use Rattle.bench_row.specs.First.{startFirst, beginFirst, stepFirst}
+use Rattle.stepping.specs.Runs.{Store}
+use Rattle.bench_row.specs.First.{firstCount, startFirst, beginFirst, stepFirst}
 use Rattle.bench_lines.specs.declared.command.Command.{Command}
 use Rattle.bench_lines.specs.declared.command.Command.the-variants as command
 use Rattle.bench_lines.specs.declared.reply.Reply.{Reply}
@@ -40,6 +41,10 @@ unstartedBench = record { cells = replicate 9 0; row = replicate 9 (idleTask 0);
 -- How many cells are lent for n tasks. A start for nine or more is refused for its row.
 abbrev pub cellCount : ℕ → ℕ
 cellCount n = cond (ltb n 9) (n + 1) 9
+
+-- What is lent to a call: the first of the cells and of the records.
+abbrev pub lent : Bench → Store
+lent bench = record { cells = take (cellCount (bench .tasks)) (bench .cells); row = take (firstCount (bench .tasks)) (bench .row) }
 
 -- ---- `n k`: an accepted start opens another run; a refused one leaves the present run as it is
 

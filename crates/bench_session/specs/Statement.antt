@@ -5,16 +5,16 @@ use mathlib.Core.Logic.{_≢_}
 use mathlib.Core.List.{List, [], _∷_, _++_}
 use Prim.Native.Nat.{ℕ}
 use lib.Dec.{eqb}
-use Rattle.table.specs.File.{Bytes}
+use Rattle.table.specs.File.{Bytes, shapeOf}
 use Rattle.table.specs.Check.{checkOf}
 use Rattle.machine.specs.Calls.{Call}
-use Rattle.stepping.specs.Runs.{Store}
+use Rattle.stepping.specs.Runs.{Store, runOf}
 use Rattle.stepping.specs.Opening.{Opening, shown}
 use Rattle.bench_lines.specs.declared.command.Command.the-variants as command
 use Rattle.bench_lines.specs.declared.reply.Reply.{Reply}
 use Rattle.bench_lines.specs.declared.reply.Reply.the-variants as reply
 use Rattle.bench_session.specs.declared.run.Bench.{Bench}
-use Rattle.bench_session.specs.Run.{stepBench, finishBench, serveCommand}
+use Rattle.bench_session.specs.Run.{lent, stepBench, finishBench, serveCommand}
 use Rattle.bench_lines.specs.Line.{newline, cellsLine}
 use Rattle.bench_session.specs.Session.{isServed, tableText, outputOf, Fed, newSession, andThen, feed, finishText}
 
@@ -35,12 +35,13 @@ abbrev pub Finishes : List ℕ → Type 0
 Finishes file = Bytes file → (input : List ℕ) (t : ℕ)
     → EndsBy t (stepBench file (benchAfter file input) t .reply) (finishBench file (benchAfter file input) t .reply)
 
--- What `m` prints after an input are the cells of a point of a run: some opening with the bench's tasks, and some calls after it.
+-- What `m` prints after an input are the cells of a point of a run from the table's start state, and the next call goes on from there.
 pub record PrintsPoint (file input : List ℕ) : Type 0 where
-  pub state : ℕ
   pub store : Store
-  pub opening : Opening file (benchAfter file input .tasks) state store
+  pub opening : Opening file (benchAfter file input .tasks) (shapeOf file .start) store
   pub calls : List Call
+  -- What the calls have left is what is lent to the next call.
+  pub left : runOf file calls store ≡ lent (benchAfter file input)
   pub line : serveCommand file (benchAfter file input) command.Print .text ≡ cellsLine (shown opening .cells calls)
 
 -- So it is whatever the input, once tasks are started.
