@@ -13,7 +13,7 @@ use Rattle.laws.proofs.Choice.{choice-by}
 use Rattle.laws.proofs.Decision.{same-tests}
 use Rattle.cells.specs.Field.{total}
 use Rattle.cells.specs.Form.{holderBound, outcomeInForm, headFieldsInForm, headInForm}
-use Rattle.cells.specs.Layout.{headWidths, announcementWidths, stateInWord, holderIn, hasMark}
+use Rattle.cells.specs.Layout.{headWidths, announcementWidths, holderIn, hasMark}
 use Rattle.cells.specs.Marks.{has}
 use Rattle.cells.specs.Statement.{ReadInBits, EmptyIsMarks, HeadPoints, PointByPoint, HolderIsTask, WithinEight, ForMore, Sharp}
 use Rattle.cells.proofs.Fields.{unpackAt, unpack-places}

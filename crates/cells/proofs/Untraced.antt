@@ -2,11 +2,11 @@
 use mathlib.Core.Path.{_≡_, refl, ap, sym, _∙_}
 use mathlib.Core.Bool.{true, false, and-eq-true-iff}
 use mathlib.Core.List.{List, [], _∷_}
-use Prim.Native.Nat.{ℕ, zero, suc, _+_, _*_, _^_, _<_}
+use Prim.Native.Nat.{ℕ, suc, _+_, _*_, _^_, _<_}
 use native.Mathlib.Numerals.{add-one}
 use native.Mathlib.Omega.{arith}
 use lib.ListN.{length, getD, replicate}
-use Rattle.cells.specs.Field.{pack, unpack}
+use Rattle.cells.specs.Field.{pack}
 use Rattle.cells.specs.Form.{headInForm, announcementInForm, announcementsInForm, cellsInForm}
 use Rattle.cells.specs.Image.{image}
 use Rattle.cells.specs.Layout.{marksWidth, marks, hasMark, headWord, headOf, stateInWord, holderIn, kindIn, announcementWord, announcementOf}

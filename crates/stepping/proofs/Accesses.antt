@@ -8,7 +8,7 @@ use native.Mathlib.Numerals.{add-one}
 use native.Mathlib.Omega.{arith}
 use borrow.Author.Tests.{ne-eqb}
 use lib.Dec.{eqb}
-use lib.ListN.{length, getD, set}
+use lib.ListN.{length, getD, set, List·getD-eq-default}
 use lib.Seq.{set-getD}
 use Rattle.laws.specs.Update.{update}
 use Rattle.laws.specs.Decision.{decided}
@@ -36,6 +36,12 @@ use Rattle.laws.proofs.Tabulate.{tabulate-length, tabulate-at, tabulate-set}
 module _ (n : ℕ) (m : Memory) where
   pub cells-length : length (encodeCells n m) ≡ n + 1
   cells-length = rw (tabulate-length n (λ j. encodeAnnouncement (m .announcement j))) (sym (add-one n))
+
+  -- Cells from n + 1 on read as 0.
+  pub cell-beyond : (j : ℕ) → (j < n → ⊥) → getD (encodeCells n m) (j + 1) 0 ≡ 0
+  cell-beyond j beyond =
+      let past : length (encodeCells n m) ≤ j + 1 = omega (arith, beyond, cells-length) in
+      List·getD-eq-default (encodeCells n m) 0 past
 
   module _ (j : ℕ) (below : j < n) where
     pub cell-at : getD (encodeCells n m) (j + 1) 0 ≡ encodeAnnouncement (m .announcement j)

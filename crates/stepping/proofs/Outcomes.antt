@@ -2,10 +2,8 @@
 use mathlib.Core.Path.{_≡_, ap, sym, subst, _∙_}
 use mathlib.Core.Bool.{Bool, false}
 use mathlib.Core.List.{List}
-use Prim.Native.Nat.{ℕ, _+_, _<_, _≤_}
+use Prim.Native.Nat.{ℕ, _<_, _≤_}
 use native.Mathlib.Decide.{decLt}
-use native.Mathlib.Omega.{arith}
-use lib.ListN.{length, getD, List·getD-eq-default}
 use Rattle.laws.proofs.Clash.{never}
 use Rattle.cells.specs.Field.{unpack}
 use Rattle.cells.specs.Image.{image}
@@ -35,7 +33,7 @@ use Rattle.stepping.specs.Encoding.{encodeCells}
 use Rattle.stepping.specs.Opening.{Opening, objectIn, shown}
 use Rattle.stepping.specs.Print.{Print}
 use Rattle.stepping.specs.Statement.{Demands, DemandsWithin, EntryUsed, Answered, CarriedFor, in-head, in-announcement, CarriedAlong}
-use Rattle.stepping.proofs.Accesses.{cells-length, cell-at}
+use Rattle.stepping.proofs.Accesses.{cell-at, cell-beyond}
 use Rattle.stepping.proofs.Demands.{machineRun, opens, in-range, encodedShows, shown-same, encoded-demands}
 
 -- A word of 0 holds no response.
@@ -69,11 +67,7 @@ module _ {file : List ℕ} {n q : ℕ} {s : Store} (o : Opening file n q s) wher
             let ranged = in-range o xs .formed .memory in
             let read = announcement-read file (o .shape) (o .table) n (o .few) (m .announcement j) (ranged .announcement j) in
             machine.in-announcement (content-same-value (m .announcement j .value) _ (sym read ∙ ap announcementOf (sym (cell-at n m j below)) ∙ e))
-        by (no beyond) =
-            let m = machineRun o xs .memory in
-            let past : length (encodeCells n m) ≤ j + 1 = omega (arith, cells-length n m) in
-            let none : getD (encodeCells n m) (j + 1) 0 ≡ 0 = List·getD-eq-default (encodeCells n m) 0 past in
-            absurd (no-response r moved (ap announcementOf (sym none) ∙ e))
+        by (no beyond) = absurd (no-response r moved (ap announcementOf (sym (cell-beyond n (machineRun o xs .memory) j beyond)) ∙ e))
 
   encoded-carried : CarriedAlong file (o .shape) q (encodedShows o) (bookOf (objectIn o) n q)
   encoded-carried xs j r moved c =

@@ -2,11 +2,10 @@
 use mathlib.Core.Path.{_≡_, refl, sym, ap, _∙_}
 use mathlib.Core.Bool.{true, false, not-eq-not}
 use mathlib.Core.List.{List}
-use Prim.Native.Nat.{ℕ, zero, suc, _+_, _<_, _≤_}
+use Prim.Native.Nat.{ℕ, zero, suc, _<_, _≤_}
 use native.Mathlib.Decide.{decLt}
 use native.Mathlib.Numerals.{add-one}
-use native.Mathlib.Omega.{arith}
-use lib.ListN.{length, getD, List·getD-eq-default}
+use lib.ListN.{getD}
 use Rattle.laws.proofs.Clash.{clash}
 use Rattle.cells.specs.Field.{unpack}
 use Rattle.cells.specs.Layout.{marksWidth, hasMark, holderIn, kindIn}
@@ -28,7 +27,7 @@ use Rattle.transition.specs.Object.{ObjectTable, objectOf}
 use Rattle.transition.proofs.EncodedCells.{state-seen, holder-seen, head-mark, announcement-mark}
 use Rattle.stepping.specs.Encoding.{encodeCells}
 use Rattle.stepping.specs.Print.{EmptyAt, Print, Shows, announced, marked, holds, PrintAtRest}
-use Rattle.stepping.proofs.Accesses.{cells-length, cell-at, encoded-empty}
+use Rattle.stepping.proofs.Accesses.{cell-at, cell-beyond, encoded-empty}
 
 -- ---- The machine's cells as words
 
@@ -37,7 +36,7 @@ unfolding unpack
 zero-kind = refl
 
 module _ (file : List ℕ) (shape : Shape) (table : ObjectTable file shape) (n : ℕ) (most : n ≤ marksWidth) (m : Memory) (ranged : MemoryFormed (objectOf file shape) n m) where
-  -- A mark that some word shows stands in the head or in an announcement.
+  -- A mark that stands in no cell is shown by no word.
   unseen : (t k : ℕ) → (has t (m .head .marks) ≡ true → ⊥) → ((j : ℕ) → has t (m .announcement j .marks) ≡ true → ⊥) → hasMark t (getD (encodeCells n m) k 0) ≡ true → ⊥
   unseen t zero head others e = head (head-mark file shape table n most (m .head) (ranged .head) t e)
   unseen t (suc j) head others e = by (decLt j n)
@@ -46,9 +45,7 @@ module _ (file : List ℕ) (shape : Shape) (table : ObjectTable file shape) (n :
       by (yes below) =
           let word = rw (add-one j) at (cell-at n m j below) in
           others j (announcement-mark file shape table n most (m .announcement j) (ranged .announcement j) t (ap (hasMark t) (sym word) ∙ e))
-      by (no beyond) =
-          let past : length (encodeCells n m) ≤ suc j = omega (arith, beyond, cells-length n m) in
-          clash e (ap (hasMark t) (List·getD-eq-default (encodeCells n m) 0 past) ∙ zero-mark t)
+      by (no beyond) = clash e (ap (hasMark t) (rw (add-one j) at (cell-beyond n m j beyond)) ∙ zero-mark t)
 
   pub encoded-print : (q : ℕ) (es : List Event) (order : List Operation) → MidWork (objectOf file shape) q m es order → Print (objectOf file shape) n q (encodeCells n m) es order
   encoded-print q es order w = record {
@@ -58,12 +55,9 @@ module _ (file : List ℕ) (shape : Shape) (table : ObjectTable file shape) (n :
     state = state-seen file shape table n most (m .head) (ranged .head) ∙ w .state;
   }
     where
-      -- Cells from n + 1 on read as 0.
       kind-seen : (t : ℕ) → Dec (t < n) → content m t ≡ Empty → EmptyAt (encodeCells n m) t
       kind-seen t (yes below) empty = encoded-empty file shape table n most m ranged t below .1 empty
-      kind-seen t (no beyond) empty =
-          let past : length (encodeCells n m) ≤ t + 1 = omega (arith, beyond, cells-length n m) in
-          ap kindIn (List·getD-eq-default (encodeCells n m) 0 past) ∙ zero-kind
+      kind-seen t (no beyond) empty = ap kindIn (cell-beyond n m t beyond) ∙ zero-kind
 
       bounded : (j p : ℕ) (r : Outcome) → m .head .value ≡ Held p j r → j < n
       bounded j p r held = (rw held at (ranged .head .value)) .1
