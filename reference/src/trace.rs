@@ -164,7 +164,7 @@ mod tests {
   announcement 0  0000000000000000  empty
   announcement 1  0000000000000000  empty
   marks 0
-  it follows: the order of operations has led to state 1
+  it follows: the operations made so far lead to state 1
   no trace of tasks 0 1: idle, reading, or changing and not yet announced
 < m 0000000000000100 0000000000000000 0000000000000000 0
 ";
@@ -180,7 +180,7 @@ mod tests {
   announcement 0  0000000000000000  empty
   announcement 1  0000000000000000  empty
   marks 0
-  it follows: the order of operations has led to state 0
+  it follows: the operations made so far lead to state 0
   no trace of tasks 0 1: idle, reading, or changing and not yet announced
 < m 0000000000000000 0000000000000000 0000000000000000 0
 ";
@@ -228,8 +228,8 @@ mod tests {
   announcement 0  0000000000010100  operation 1
   announcement 1  0000000000000000  empty
   marks 1
-  it follows: the order of operations has led to state 0
-  it follows: task 0 has a changing operation pending: announced, marked in the head
+  it follows: the operations made so far lead to state 0
+  it follows: task 0 has a changing operation pending: announced, its mark stands in the head
   no trace of task 1: idle, reading, or changing and not yet announced
 < m 0000000000000001 0000000000010100 0000000000000000 1
 ";

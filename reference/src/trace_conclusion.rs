@@ -11,6 +11,7 @@ use crate::machine::HEAD_CELL;
 #[derive(Clone, Copy, Debug, PartialEq, Eq, PartialOrd, Ord)]
 enum Trace {
     Announced,
+    Answered,
     Holds,
     Marks { cell: usize },
 }
@@ -21,7 +22,7 @@ type Traces = BTreeMap<usize, BTreeSet<Trace>>;
 pub fn conclusion_lines(cells: &[u64]) -> Vec<String> {
     let tasks = cells.len() - 1;
     let state = Head::decode(cells[HEAD_CELL]).state;
-    let reached = format!("it follows: the order of operations has led to state {state}");
+    let reached = format!("it follows: the operations made so far lead to state {state}");
     let traces = traces_in(cells);
     let pending = traces.range(..tasks).map(|(task, traces)| {
         let reasons = reasons(traces);
@@ -39,8 +40,10 @@ fn traces_in(cells: &[u64]) -> Traces {
         traces.entry(task).or_default().insert(trace);
     };
     for (cell, &word) in cells.iter().enumerate() {
-        if cell != HEAD_CELL && kind(word) > 0 {
-            note(cell - 1, Trace::Announced);
+        match (cell, kind(word)) {
+            (HEAD_CELL, _) | (_, 0) => {}
+            (_, 2) => note(cell - 1, Trace::Answered),
+            _ => note(cell - 1, Trace::Announced),
         }
         if let (HEAD_CELL, Some(holder)) = (cell, Head::decode(word).holder) {
             note(holder.task, Trace::Holds);
@@ -57,12 +60,13 @@ fn reasons(traces: &BTreeSet<Trace>) -> String {
     for trace in traces {
         match *trace {
             Trace::Announced => reasons.push("announced".to_string()),
+            Trace::Answered => reasons.push("answered".to_string()),
             Trace::Holds => reasons.push("holds the head".to_string()),
             Trace::Marks { cell } => marked.push(place(cell)),
         }
     }
     if !marked.is_empty() {
-        reasons.push(format!("marked in {}", marked.join(" and ")));
+        reasons.push(format!("its mark stands in {}", marked.join(" and ")));
     }
     reasons.join(", ")
 }
@@ -95,7 +99,7 @@ mod tests {
     /// The lines without the one about the state, which is the first.
     fn of_tasks(cells: &[u64]) -> Vec<String> {
         let lines = conclusion_lines(cells);
-        assert!(lines[0].starts_with("it follows: the order of operations has led to state "));
+        assert!(lines[0].starts_with("it follows: the operations made so far lead to state "));
         lines[1..].to_vec()
     }
 
@@ -106,7 +110,7 @@ mod tests {
     #[test]
     fn the_state_is_the_head_s() {
         for (head, state) in [(0, 0), (0x0100, 1), (0xff00, 255), (0x18fe_0103, 1)] {
-            let expected = format!("it follows: the order of operations has led to state {state}");
+            let expected = format!("it follows: the operations made so far lead to state {state}");
             assert_eq!(conclusion_lines(&[head, 0])[0], expected);
         }
     }
@@ -114,22 +118,30 @@ mod tests {
     #[test]
     fn each_trace_alone_tells_of_an_operation() {
         assert_eq!(of_tasks(&[0, 0x0001_0100]), [pending(0, "announced")]);
-        assert_eq!(of_tasks(&[0, 0x0000_0200]), [pending(0, "announced")]);
+        assert_eq!(of_tasks(&[0, 0x0000_0200]), [pending(0, "answered")]);
         assert_eq!(of_tasks(&[0, 0x0000_0300]), [pending(0, "announced")]);
         assert_eq!(of_tasks(&[0x0100_0000, 0]), [pending(0, "holds the head")]);
-        assert_eq!(of_tasks(&[0x0001, 0]), [pending(0, "marked in the head")]);
-        assert_eq!(of_tasks(&[0, 0x0001]), [pending(0, "marked in announcement 0")]);
+        assert_eq!(
+            of_tasks(&[0x0001, 0]),
+            [pending(0, "its mark stands in the head")]
+        );
+        assert_eq!(
+            of_tasks(&[0, 0x0001]),
+            [pending(0, "its mark stands in announcement 0")]
+        );
     }
 
     #[test]
     fn traces_are_told_in_their_order() {
         let helped = of_tasks(&[0x0100_0001, 0x0001_0103, 0x0002_0100]);
-        let all = "announced, holds the head, marked in the head and announcement 0";
-        let helper = pending(1, "announced, marked in announcement 0");
+        let all = "announced, holds the head, its mark stands in the head and announcement 0";
+        let helper = pending(1, "announced, its mark stands in announcement 0");
         assert_eq!(helped, [pending(0, all), helper.clone()]);
         let by_word = [pending(0, "announced"), helper, pending(2, "holds the head")];
         assert_eq!(of_tasks(&[0x0300_0000, 0x0102, 0x0100, 0]), by_word);
-        let everywhere = "marked in the head and announcement 0 and announcement 1";
+        let answered = of_tasks(&[0x0100_0001, 0x0100_0203]);
+        assert_eq!(answered, [pending(0, &all.replace("announced", "answered"))]);
+        let everywhere = "its mark stands in the head and announcement 0 and announcement 1";
         assert_eq!(of_tasks(&[1, 1, 1])[0], pending(0, everywhere));
     }
 
@@ -137,7 +149,7 @@ mod tests {
     fn a_mark_is_a_trace_of_its_own_task_alone() {
         let of_another = of_tasks(&[0, 0x0002, 0]);
         let expected = [
-            pending(1, "marked in announcement 0"),
+            pending(1, "its mark stands in announcement 0"),
             format!("no trace of task 0: {POSSIBLE}"),
         ];
         assert_eq!(of_another, expected);

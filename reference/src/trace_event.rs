@@ -304,9 +304,9 @@ mod tests {
             "announcement 0  0000000000010101  operation 1, marked by 0",
             "announcement 1  0000000000000000  empty",
             "marks 3",
-            "it follows: the order of operations has led to state 1",
-            "it follows: task 0 has a changing operation pending: announced, marked in the head and announcement 0",
-            "it follows: task 1 has a changing operation pending: marked in the head",
+            "it follows: the operations made so far lead to state 1",
+            "it follows: task 0 has a changing operation pending: announced, its mark stands in the head and announcement 0",
+            "it follows: task 1 has a changing operation pending: its mark stands in the head",
         ];
         assert_eq!(Event::Cells(vec![0x103, 0x1_0101, 0]).lines(), expected);
     }

@@ -1,5 +1,5 @@
 //! What follows from a print of the cells, at whatever point of a run it was taken, by its words alone. At every point the head
-//! has the state to which the order of operations has led, and a task leaves a trace in the cells only while it has a changing
+//! has the state to which the operations made so far lead, and a task leaves a trace in the cells only while it has a changing
 //! operation pending.
 
 use crate::word::{cell_name, held, kind, marked_by, state};
@@ -8,7 +8,7 @@ use crate::word::{cell_name, held, kind, marked_by, state};
 pub fn conclusions(cells: &[u64]) -> Vec<String> {
     let state = state(cells[0]);
     let mut lines = vec![format!(
-        "it follows: the order of operations has led to state {state}"
+        "it follows: the operations made so far lead to state {state}"
     )];
     let mut others = Vec::new();
     for task in 0..cells.len() - 1 {
@@ -28,18 +28,27 @@ pub fn conclusions(cells: &[u64]) -> Vec<String> {
 /// The traces of a task: each is one that no task without a changing operation pending has.
 fn traces(cells: &[u64], task: usize) -> Vec<String> {
     let is_it = |other: u64| other == task as u64;
-    let announced = kind(cells[task + 1]) != 0;
     let holds = held(cells[0]).is_some_and(|(holder, _)| is_it(holder));
     let marked: Vec<String> = (0..cells.len())
         .filter(|cell| marked_by(cells[*cell]).any(is_it))
         .map(place)
         .collect();
     let traces = [
-        announced.then(|| "announced".into()),
+        of_announcement(kind(cells[task + 1])),
         holds.then(|| "holds the head".into()),
-        (!marked.is_empty()).then(|| format!("marked in {}", marked.join(" and "))),
+        (!marked.is_empty()).then(|| format!("its mark stands in {}", marked.join(" and "))),
     ];
     traces.into_iter().flatten().collect()
+}
+
+/// The trace that an announcement has of its task, by its kind. With 2, a response, the operation has been made; 3 never occurs
+/// in a run.
+fn of_announcement(kind: u64) -> Option<String> {
+    match kind {
+        0 => None,
+        2 => Some("answered".into()),
+        _ => Some("announced".into()),
+    }
 }
 
 fn place(cell: usize) -> String {

@@ -3,7 +3,7 @@
 use std::collections::BTreeMap;
 
 use crate::mid_work::EXAMPLE;
-use crate::prints::{prints, Doing, Print};
+use crate::prints::{prints, Doing, Print, Stage};
 use crate::program::drive;
 use crate::runs::stories;
 
@@ -29,30 +29,66 @@ fn what_follows_is_true_by_what_was_told_before() {
     }
 }
 
+/// Answered is said of exactly the pending operations that have been applied and got their response, announced of all others;
+/// the head is said to be held by none but operations that have been applied.
+#[test]
+fn answered_are_the_operations_with_their_response() {
+    for (name, print) in all_prints() {
+        for (task, traces) in &print.pending {
+            let Doing::Changing { stage, .. } = print.doing[*task] else {
+                panic!("{name}: task {task} changes nothing: {print:?}");
+            };
+            let expected = match stage {
+                Stage::Begun | Stage::Made => "announced",
+                Stage::Answered => "answered",
+            };
+            let mut words = traces.split(", ");
+            assert_eq!(words.next(), Some(expected), "{name}: task {task}: {print:?}");
+            let held = words.any(|word| word == "holds the head");
+            assert!(!held || stage != Stage::Begun, "{name}: task {task}: {print:?}");
+        }
+    }
+}
+
 /// What a task's announcement holds and what is said of the task, and in how many prints that occurs at least.
 const OF_TASKS: [(&str, usize); 22] = [
     ("operation: announced", 5_000),
     ("operation: announced, holds the head", 500),
-    ("operation: announced, holds the head, marked in the head", 200),
     (
-        "operation: announced, holds the head, marked in the head and its own",
+        "operation: announced, holds the head, its mark stands in the head",
+        200,
+    ),
+    (
+        "operation: announced, holds the head, its mark stands in the head and its own",
         100,
     ),
-    ("operation: announced, holds the head, marked in another's", 1),
-    ("operation: announced, marked in the head", 1_000),
-    ("operation: announced, marked in the head and another's", 100),
-    ("operation: announced, marked in another's", 20),
-    ("response: announced", 100),
-    ("response: announced, holds the head", 20),
-    ("response: announced, holds the head, marked in the head", 50),
     (
-        "response: announced, holds the head, marked in the head and its own",
+        "operation: announced, holds the head, its mark stands in another's",
         1,
     ),
-    ("response: announced, holds the head, marked in another's", 1),
-    ("response: announced, marked in the head", 20),
-    ("response: announced, marked in its own", 1),
-    ("response: announced, marked in another's", 1),
+    ("operation: announced, its mark stands in the head", 1_000),
+    (
+        "operation: announced, its mark stands in the head and another's",
+        100,
+    ),
+    ("operation: announced, its mark stands in another's", 20),
+    ("response: answered", 100),
+    ("response: answered, holds the head", 20),
+    (
+        "response: answered, holds the head, its mark stands in the head",
+        50,
+    ),
+    (
+        "response: answered, holds the head, its mark stands in the head and its own",
+        1,
+    ),
+    (
+        "response: answered, holds the head, its mark stands in another's",
+        1,
+    ),
+    ("response: answered, its mark stands in the head", 20),
+    ("response: answered, its mark stands in its own", 1),
+    ("response: answered, its mark stands in another's", 1),
     ("empty: idle, no trace", 5_000),
     ("empty: reading, no trace", 1_000),
     ("empty: begun, no trace", 1_000),

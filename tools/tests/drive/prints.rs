@@ -7,7 +7,21 @@ use reference::table::Table;
 pub enum Doing {
     Nothing,
     Reading,
-    Changing { operation: usize, steps: usize },
+    Changing {
+        operation: usize,
+        steps: usize,
+        stage: Stage,
+    },
+}
+
+/// How far a changing operation has come.
+#[derive(Clone, Copy, PartialEq, Debug)]
+pub enum Stage {
+    Begun,
+    /// It has been applied.
+    Made,
+    /// It has been applied, and then its response was handed over to it.
+    Answered,
 }
 
 /// A print, what is said to follow from it, and what was told before it.
@@ -52,6 +66,10 @@ impl Reader<'_> {
                 self.step(number(task));
                 self.apply(number(helped));
             }
+            ["task", task, "step", _, "HandOver", helped, "swap", "announcement", _, _, "->", ..] => {
+                self.step(number(task));
+                self.hand_over(number(helped));
+            }
             ["task", task, "step", ..] => self.step(number(task)),
             ["task", task, "ends", ..] => self.doing[number(task)] = Doing::Nothing,
             ["head" | "announcement", ..] => self.print.cells.push(line.into()),
@@ -59,7 +77,9 @@ impl Reader<'_> {
             {
                 self.print.pending.push((number(task), reasons.join(" ")));
             }
-            ["it", "follows:", .., "led", "to", "state", state] => self.print.states.push(number(state)),
+            ["it", "follows:", "the", "operations", "made", "so", "far", "lead", "to", "state", state] => {
+                self.print.states.push(number(state));
+            }
             ["no", "trace", "of", "task" | "tasks", words @ ..] => self.print.others.extend(numbers(words)),
             _ => {}
         }
@@ -73,11 +93,22 @@ impl Reader<'_> {
 
     /// The operation of a task joins the order.
     fn apply(&mut self, task: usize) {
-        let Doing::Changing { operation, .. } = self.doing[task] else {
+        let Doing::Changing { operation, stage, .. } = &mut self.doing[task] else {
             panic!("an operation that is applied is pending");
         };
-        let entry = self.table.entry(self.reached, operation);
+        assert_eq!(*stage, Stage::Begun, "an operation is applied once");
+        *stage = Stage::Made;
+        let entry = self.table.entry(self.reached, *operation);
         self.reached = usize::from(entry.next);
+    }
+
+    /// The operation of a task, which has been applied, gets its response.
+    fn hand_over(&mut self, task: usize) {
+        let Doing::Changing { stage, .. } = &mut self.doing[task] else {
+            panic!("an operation that is answered is pending");
+        };
+        assert_eq!(*stage, Stage::Made, "an operation is answered once, when applied");
+        *stage = Stage::Answered;
     }
 
     /// The print that was told, which is complete.
@@ -92,7 +123,11 @@ impl Reader<'_> {
 
 fn begun(operation: usize, kind: &str) -> Doing {
     match kind {
-        "changing" => Doing::Changing { operation, steps: 0 },
+        "changing" => Doing::Changing {
+            operation,
+            steps: 0,
+            stage: Stage::Begun,
+        },
         "reading" => Doing::Reading,
         _ => panic!("begun as {kind}"),
     }

@@ -67,7 +67,7 @@ fn an_operation_that_moves_only_the_spare_state_has_one_step() {
   head            0000000000000000  state 0
   announcement 0  0000000000000000  empty
   marks 0
-  it follows: the order of operations has led to state 0
+  it follows: the operations made so far lead to state 0
   no trace of task 0: idle, reading, or changing and not yet announced
 < m 0000000000000000 0000000000000000 0
 > s 0

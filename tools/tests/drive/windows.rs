@@ -168,7 +168,7 @@ fn wrong_lines() -> Vec<&'static str> {
 }
 
 /// What must occur in the stories: a line with both texts, so many times.
-const OCCUR: [(&str, &str, usize); 21] = [
+const OCCUR: [(&str, &str, usize); 22] = [
     ("  window call of ", ": refused with 8: ", 50),
     ("  window call of ", ": refused with 9: ", 50),
     ("  window call of ", ": refused with 10: ", 50),
@@ -187,8 +187,9 @@ const OCCUR: [(&str, &str, usize); 21] = [
     (" ends operation ", ", not moved, ", 100),
     (" ends operation ", ", moved, ", 100),
     ("  at rest in state ", "", 100),
-    ("  it follows: the order of operations has led to state ", "", 250),
-    ("  it follows: task ", " pending: announced", 250),
+    ("  it follows: the operations made so far lead to state ", "", 250),
+    ("  it follows: task ", " pending: announced", 210),
+    ("  it follows: task ", " pending: answered", 40),
     ("  no trace of task", " idle, reading, or changing", 250),
 ];
 

@@ -3,7 +3,7 @@
  * the others are reading, every ceiling is 77, and a step of task 0 is refused with 12. A step of another task ends its
  * operation: a changing one leaves replies that moved in the cells and answers that nothing moved, a reading one leaves
  * everything and answers that the state moved. A changing one of task 2 leaves a head with marks of tasks 0 and 7 and the
- * holder 14, a mark of task 1 in announcement 0, and no announcement that isn't empty.
+ * holder 14, a mark of task 1 in announcement 0, and in its own announcement the kind 3, which no run of the library has.
  * A list with a ring of 1,000 millimetres is refused with 14, chainage 5 with 15, the table of two rings with 16; chainage 6
  * belongs to ring 9 and any other to the last ring; a table is a text, and that of three rings has more bytes than any room.
  * The one file of a table's object is refused with 16 for a table of one byte, and for one of two bytes it has more bytes than
@@ -110,7 +110,8 @@ uint64_t drive_step(const uint8_t *file, size_t file_length, uint64_t *cells, si
     if (task == 2) {
         cells[0] = 0x0f000981;
         cells[1] = 2;
-        cells[2] = cells[3] = 0;
+        cells[2] = 0;
+        cells[3] = 0x300;
     } else {
         cells[0] = 0x11060300;
         cells[task + 1] = 0x01050200;
