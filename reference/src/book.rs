@@ -304,6 +304,24 @@ mod tests {
         }
     }
 
+    /// Task 0 has applied its set: its status is done, and which operation that was is noted by pending alone.
+    #[test]
+    fn what_is_pending_is_compared_with_the_records() {
+        let table = flag();
+        let mut book = begun(&table, SET);
+        book.enter(&table, 0).unwrap();
+        let of_record = |operation| Record {
+            operation,
+            ..Record::idle(0).with_phase(Phase::Poll)
+        };
+        let said = |operation| {
+            let point = Configuration::of_parts(&[0x1100_0100, 0x0001_0100], &[of_record(operation)]);
+            book.agrees_with(&point).err().unwrap_or_default()
+        };
+        assert_eq!(said(SET as u16), "");
+        assert!(said(2).starts_with("book: Pending"));
+    }
+
     #[test]
     fn a_word_carries_nothing_for_a_task_that_waits() {
         assert_eq!(said([0, 0x0001_0100], false), "");

@@ -1,6 +1,5 @@
 //! A point of a run: all cells and all records; and the calls that lead from one to the next.
 
-use crate::calls;
 use crate::cells::{has_mark, image, kind, Announcement, Head, Holder, MOST_TASKS};
 use crate::machine::{announcement_cell, Answer, HEAD_CELL};
 use crate::record::Record;
@@ -26,9 +25,13 @@ pub type CallAnswer = Result<Option<Answer>, Refusal>;
 
 impl Configuration {
     pub fn started(table: &Table, tasks: usize) -> Result<Configuration, Refusal> {
+        Configuration::started_by(Rules::MACHINE, table, tasks)
+    }
+
+    pub fn started_by(rules: Rules, table: &Table, tasks: usize) -> Result<Configuration, Refusal> {
         let mut configuration = Configuration::of_parts(&vec![0; tasks + 1], &vec![Record::default(); tasks]);
         let (cells, row) = configuration.parts_mut();
-        calls::start(table, cells, row)?;
+        rules.start(table, cells, row)?;
         Ok(configuration)
     }
 

@@ -26,14 +26,26 @@ pub struct Findings {
 
 /// Makes a number of calls and checks each, the head's state by a replay of the order too; at the end the order is checked.
 pub fn run(system: System, tasks: usize, calls: usize, seed: u64) -> Result<Findings, String> {
+    let make = |before: &Configuration, call, book: &mut Book| system.make_checked(before, call, book);
+    run_replayed(system, tasks, calls, seed, make)
+}
+
+/// Makes a number of calls by what makes and checks one, with the head's state held to a replay of the order after each.
+fn run_replayed(
+    system: System,
+    tasks: usize,
+    calls: usize,
+    seed: u64,
+    mut make: impl FnMut(&Configuration, Call, &mut Book) -> Checked,
+) -> Result<Findings, String> {
     let mut replay = Replay::new(system.table);
-    let make = |before: &Configuration, call, book: &mut Book| {
-        let (after, answer) = system.make_checked(before, call, book)?;
+    let replayed = |before: &Configuration, call, book: &mut Book| {
+        let (after, answer) = make(before, call, book)?;
         replay.go_on(system.table, &book.order);
         check_state(replay.reached, after.cells())?;
         Ok((after, answer))
     };
-    run_by(system, tasks, calls, seed, make)
+    run_by(system, tasks, calls, seed, replayed)
 }
 
 /// Makes a number of calls by what makes and checks one, and at the end replays the order.
@@ -253,6 +265,21 @@ mod tests {
                 assert!(findings.ended > 20, "{tasks} tasks: {}", findings.ended);
             }
         }
+    }
+
+    /// In the book's order every set becomes a clear.
+    #[test]
+    fn an_order_that_leads_elsewhere_is_found_by_the_replay() {
+        let flag = &explored_objects()[0];
+        let system = flag.system();
+        let make = |before: &Configuration, call, book: &mut Book| {
+            let made = system.make_checked(before, call, book)?;
+            let sets = book.order.iter_mut().filter(|begun| begun.operation == 1);
+            sets.for_each(|begun| begun.operation = 2);
+            Ok(made)
+        };
+        let found = run_replayed(system, 2, 3_000, 5, make).err().unwrap();
+        assert!(found.starts_with("fact 4"), "{found}");
     }
 
     fn history_of_one(response: u16, moved: bool) -> (History, Book, Table<'static>) {

@@ -6,6 +6,9 @@ use crate::record::Record;
 use crate::refusal::Refusal;
 use crate::table::Table;
 
+/// How a start fills cells and row.
+pub type Start = fn(&Table, &mut [u64], &mut [Record]) -> Result<(), Refusal>;
+
 /// How a begin changes the row.
 pub type Begin = fn(&Table, &mut [Record], usize, usize) -> Result<(), Refusal>;
 
@@ -17,6 +20,7 @@ pub type Advance = fn(&Table, usize, usize, &Record, Outcome) -> (Record, Answer
 
 #[derive(Clone, Copy)]
 pub struct Rules {
+    pub start: Start,
     pub begin: Begin,
     pub plan: Plan,
     pub advance: Advance,
@@ -24,10 +28,15 @@ pub struct Rules {
 
 impl Rules {
     pub const MACHINE: Rules = Rules {
+        start: calls::start,
         begin: calls::begin,
         plan: machine::plan,
         advance: machine::advance,
     };
+
+    pub fn start(self, table: &Table, cells: &mut [u64], row: &mut [Record]) -> Result<(), Refusal> {
+        (self.start)(table, cells, row)
+    }
 
     pub fn begin(
         self,

@@ -37,7 +37,7 @@ impl<'a> System<'a> {
 impl System<'_> {
     /// The point after the start, with the facts of mid-work checked.
     pub fn start(&self, tasks: usize) -> Result<Configuration, String> {
-        let point = Configuration::started(self.table, tasks)
+        let point = Configuration::started_by(self.rules, self.table, tasks)
             .map_err(|refusal| format!("start answers {}", refusal.number()))?;
         let nothing = Pending::none(tasks);
         mid_work::check(self.table, &nothing, self.table.start, point.cells())?;
@@ -47,13 +47,8 @@ impl System<'_> {
     /// Makes a call and checks all that must hold; the book is carried along.
     pub fn make_checked(&self, before: &Configuration, call: Call, book: &mut Book) -> Checked {
         let made = self.make(before, call);
-        made.check_emptied_exactly_if_ended()?;
         invariant::check(self.table, &made.after)?;
-        made.check_service(book)?;
-        book.check_carried(&made.after)?;
-        book.agrees_with(&made.after)?;
-        made.check_potentials()?;
-        mid_work::check(self.table, &book.pending, book.state, made.after.cells())?;
+        made.check_beside_invariant(book)?;
         Ok((made.after, made.answer))
     }
 
@@ -80,6 +75,18 @@ pub struct Transition<'a> {
 }
 
 impl Transition<'_> {
+    /// All that must hold but the invariant; the facts come as soon as the call is booked.
+    pub fn check_beside_invariant(&self, book: &mut Book) -> Result<(), String> {
+        self.check_booked(book)?;
+        mid_work::check(self.table, &book.pending, book.state, self.after.cells())?;
+        self.check_emptied_exactly_if_ended()?;
+        self.check_rest()?;
+        self.check_reader()?;
+        book.check_carried(&self.after)?;
+        book.agrees_with(&self.after)?;
+        self.check_potentials()
+    }
+
     /// The image at rest and the answer.
     pub fn check_service(&self, book: &mut Book) -> Result<(), String> {
         self.check_rest()?;
@@ -93,16 +100,25 @@ impl Transition<'_> {
         }
     }
 
-    /// Refusals, the book's answer and the one step of a reading operation. The ceiling is kept because a step past it
-    /// would be refused with 11.
+    /// Refusals, the book's answer and the one step of a reading operation.
     pub fn check_answer(&self, book: &mut Book) -> Result<(), String> {
+        self.check_booked(book)?;
+        self.check_reader()
+    }
+
+    /// Refusals and the book's answer; the ceiling is kept because a step past it would be refused with 11.
+    fn check_booked(&self, book: &mut Book) -> Result<(), String> {
         if let Err(refusal) = self.answer {
             check_refusal(self.before, &self.after, refusal)?;
         }
         if let Some(task) = entered_before(self.before, self.call) {
             book.enter(self.table, task)?;
         }
-        book.book(self.table, self.call, self.answer)?;
+        book.book(self.table, self.call, self.answer)
+    }
+
+    /// A reading operation ends in its one step.
+    fn check_reader(&self) -> Result<(), String> {
         match self.call {
             Call::Step { task } if self.is_running_reader(task) => {
                 Err(format!("task {task} reads and is running"))
@@ -209,6 +225,76 @@ mod tests {
             answer,
         };
         made.check_emptied_exactly_if_ended().err().unwrap_or_default()
+    }
+
+    /// What is said of the begin of the counter's operation in one of two tasks, if the point after it is altered.
+    fn said_of_altered(alter: impl Fn(&mut [u64], &mut [Record])) -> String {
+        let (table, operation) = counter_up();
+        let system = System::of_machine(&table);
+        let before = system.start(2).unwrap();
+        let mut made = system.make(&before, Call::Begin { task: 0, operation });
+        let (cells, row) = made.after.parts_mut();
+        alter(cells, row);
+        let said = made.check_beside_invariant(&mut Book::of(&before));
+        said.err().unwrap_or_default()
+    }
+
+    #[test]
+    fn each_fact_is_checked_beside_the_invariant() {
+        assert_eq!(said_of_altered(|_, _| {}), "");
+        for (cell, bits, fact) in [
+            (2, 0x100, "fact 1"),
+            (1, 2, "fact 2"),
+            (0, 0x80, "fact 2"),
+            (0, 2 << 24, "fact 3"),
+            (0, 0x100, "fact 4"),
+        ] {
+            let found = said_of_altered(|cells, _| cells[cell] |= bits);
+            assert!(found.starts_with(fact), "{found}");
+        }
+    }
+
+    #[test]
+    fn the_records_have_pending_what_was_begun_and_has_not_ended() {
+        for found in [
+            said_of_altered(|_, row| row[0] = Record::idle(0)),
+            said_of_altered(|_, row| row[0].operation = 2),
+            said_of_altered(|_, row| row[1] = row[0]),
+        ] {
+            assert!(found.starts_with("book: Pending"), "{found}");
+        }
+    }
+
+    /// Rules whose start leaves other bits in a cell.
+    macro_rules! starting_with {
+        ($cell:expr, $bits:expr) => {
+            Rules {
+                start: |table, cells, row| {
+                    Rules::MACHINE.start(table, cells, row)?;
+                    cells[$cell] |= $bits;
+                    Ok(())
+                },
+                ..Rules::MACHINE
+            }
+        };
+    }
+
+    #[test]
+    fn the_facts_are_checked_at_the_start() {
+        let (table, _) = counter_up();
+        for (rules, fact) in [
+            (starting_with!(1, 0x0001_0100), "fact 1"),
+            (starting_with!(2, 1), "fact 2"),
+            (starting_with!(0, 1 << 24), "fact 3"),
+            (starting_with!(0, 0x100), "fact 4"),
+        ] {
+            let system = System {
+                rules,
+                ..System::of_machine(&table)
+            };
+            let found = system.start(2).unwrap_err();
+            assert!(found.starts_with(fact), "{found}");
+        }
     }
 
     #[test]

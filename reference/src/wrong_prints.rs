@@ -167,6 +167,19 @@ fn a_reading_operation_that_is_announced() {
     assert_said(emptied, rules, "emptied, not ended");
 }
 
+/// What the explorer checks beside the invariant has the facts among it.
+#[test]
+fn without_the_invariant_the_explorer_finds_the_fact() {
+    for (rules, fact) in [
+        (reading_announced(), "fact 1"),
+        (response_keeps_mark(), "fact 2"),
+        (validate_keeps_mark(), "fact 2"),
+        (exit_keeps_head(), "fact 3"),
+    ] {
+        assert_said(|made, book| made.check_beside_invariant(book), rules, fact);
+    }
+}
+
 /// Who is entered by a book that waits for the end: who reads, or is about to empty its announcement.
 fn entered_at_end(before: &Configuration, call: Call) -> Option<usize> {
     let Call::Step { task } = call else {

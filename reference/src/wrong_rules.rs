@@ -6,7 +6,7 @@ use crate::phase::Phase;
 use crate::record::Record;
 use crate::rules::Advance;
 use crate::table::Table;
-use crate::wrong_builds::{self, advancing};
+use crate::wrong_builds::{self, advancing, explore_by, Check};
 
 type Step = (Record, Answer);
 
@@ -111,7 +111,10 @@ fn a_changing_operation_that_ends_in_its_first_step() {
             _ => (record, answer),
         }
     }
-    assert_found(wrong, "ended, not emptied");
+    assert_found(wrong, "invariant: T1");
+    let emptied: Check = |made, _| made.check_emptied_exactly_if_ended();
+    let found = explore_by(emptied, advancing(wrong)).err();
+    assert!(found.is_some_and(|found| found.starts_with("ended, not emptied")));
 }
 
 #[test]

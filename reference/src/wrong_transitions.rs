@@ -15,7 +15,9 @@ use crate::reply::Reply;
 use crate::rules::{Advance, Rules};
 use crate::table::Table;
 use crate::transition::{Checked, System};
-use crate::wrong_builds::{advancing, assert_broken, assert_found, explored_object, finding, leaving};
+use crate::wrong_builds::{
+    advancing, assert_broken, assert_found, explore_by, explored_object, finding, leaving,
+};
 
 #[test]
 fn a_failed_link_of_a_helped_announcement_tried_again_at_once() {
@@ -185,7 +187,9 @@ fn emptying_twice(
 
 #[test]
 fn an_announcement_emptied_twice() {
-    assert_found(EMPTYING_TWICE, 2, "emptied, not ended");
+    assert_found(EMPTYING_TWICE, 2, "invariant: T1");
+    let found = explore_by(|made, book| made.check_beside_invariant(book), EMPTYING_TWICE).err();
+    assert!(found.is_some_and(|found| found.starts_with("emptied, not ended")));
 }
 
 /// The potential takes a task whose announcement is empty for one that waits.
