@@ -2,85 +2,22 @@
 
 use std::collections::BTreeSet;
 
-use crate::audit::{audit, Seen};
+use crate::audit::Seen;
 use crate::audit_cases::write_lines;
+use crate::audited_script::Script;
 use crate::bench::Bench;
-use crate::cells::{count_marks, MOST_TASKS};
-use crate::lines::split_lines;
-use crate::printed::{parse_printed, Printed, Served};
+use crate::cells::MOST_TASKS;
+use crate::desk::{ring_table, ORDINARY};
 use crate::random::Random;
 use crate::rules::Rules;
 use crate::table_file::TableFile;
 use crate::wrong_prints;
 
-/// A script over the flag: each line with what was printed for it.
-#[derive(Clone)]
-struct Script(Vec<(Vec<u8>, Option<String>)>);
-
-impl Script {
-    fn served_by(rules: Rules, input: &[u8]) -> Script {
-        let file = TableFile::flag().to_bytes();
-        let mut bench = Bench::new(&file).unwrap().with_rules(rules);
-        let serve = |line: &[u8]| {
-            let printed = bench.serve(line);
-            (line.to_vec(), printed.strip_suffix('\n').map(str::to_string))
-        };
-        Script(split_lines(input).into_iter().map(serve).collect())
-    }
-
-    /// Task 2 has a read pending, task 1 is idle, and task 0 sets the flag in 17 steps, with a print after every line.
-    fn of_a_set() -> Script {
-        let steps = "s 0\nm\n".repeat(17);
-        let input = format!("n 3\nm\nb 2 0\nm\nb 0 1\nm\n{steps}s 2\nm\n");
-        Script::served_by(Rules::MACHINE, input.as_bytes())
-    }
-
-    fn audit(&self) -> Result<Seen, String> {
-        let mut script = Vec::new();
-        for (line, printed) in &self.0 {
-            let printed = printed.as_deref();
-            script.push(Served { line, printed });
-        }
-        audit(&TableFile::flag().to_bytes(), &script)
-    }
-
-    /// The numbers of the lines that print cells.
-    fn prints(&self) -> Vec<usize> {
-        (1..)
-            .zip(&self.0)
-            .filter(|(_, served)| served.0 == b"m")
-            .map(|(line, _)| line)
-            .collect()
-    }
-
-    /// What is printed for a line, which is numbered from 1, is another text.
-    fn printing(&self, line: usize, text: &str) -> Script {
-        let mut altered = self.clone();
-        altered.0[line - 1].1 = Some(text.to_string()).filter(|text| !text.is_empty());
-        altered
-    }
-
-    fn cells(&self, line: usize) -> Vec<u64> {
-        match self.0[line - 1].1.as_deref().and_then(parse_printed) {
-            Some(Printed::Cells { cells, .. }) => cells,
-            other => panic!("{other:?} has no cells"),
-        }
-    }
-
-    /// The cells that a line prints are altered, and their marks counted again.
-    fn altered(&self, line: usize, alter: impl Fn(&mut Vec<u64>)) -> Script {
-        let mut cells = self.cells(line);
-        alter(&mut cells);
-        let words: String = cells.iter().map(|word| format!(" {word:016x}")).collect();
-        self.printing(line, &format!("m{words} {}", count_marks(&cells)))
-    }
-
-    /// The fact that the auditor finds broken in that line, or what else it says.
-    fn found(&self, line: usize) -> String {
-        let said = self.audit().map_or_else(|said| said, |_| "nothing".to_string());
-        let in_line = said.strip_prefix(&format!("line {line}: ")).unwrap_or(&said);
-        in_line.split(':').next().unwrap_or_default().to_string()
-    }
+/// Task 2 has a read pending, task 1 is idle, and task 0 sets the flag in 17 steps, with a print after every line.
+fn script_of_a_set() -> Script {
+    let steps = "s 0\nm\n".repeat(17);
+    let input = format!("n 3\nm\nb 2 0\nm\nb 0 1\nm\n{steps}s 2\nm\n");
+    Script::served_by(Rules::MACHINE, input.as_bytes())
 }
 
 /// Prints of the set: of the start, of announced operations, of a held head, of the response in its announcement, at rest.
@@ -93,7 +30,7 @@ const AT_REST: usize = 40;
 
 #[test]
 fn a_right_script_passes_and_its_prints_are_counted() {
-    let set = Script::of_a_set();
+    let set = script_of_a_set();
     assert_eq!(set.cells(ANNOUNCED), [0, 0x0001_0100, 0, 0]);
     assert_eq!(set.cells(HELD), [0x1100_0100, 0x0001_0100, 0, 0]);
     assert_eq!(set.cells(ANSWERED), [0x100, 0x0100_0200, 0, 0]);
@@ -110,7 +47,7 @@ fn a_right_script_passes_and_its_prints_are_counted() {
 
 #[test]
 fn a_kind_of_an_idle_or_a_reading_task_breaks_fact_1() {
-    let set = Script::of_a_set();
+    let set = script_of_a_set();
     for line in [BEGUN, ANNOUNCED, HELD, ANSWERED, AT_REST] {
         for (task, kind) in [(1, 1), (1, 2), (2, 1), (2, 2), (2, 3)] {
             let altered = set.altered(line, |cells| cells[task + 1] |= kind << 8);
@@ -122,7 +59,7 @@ fn a_kind_of_an_idle_or_a_reading_task_breaks_fact_1() {
 /// Task 1 is idle, task 2 reads, and the others aren't there.
 #[test]
 fn a_mark_of_a_quiet_task_breaks_fact_2_in_every_cell() {
-    let set = Script::of_a_set();
+    let set = script_of_a_set();
     for line in [START, BEGUN, ANNOUNCED, HELD, ANSWERED] {
         for task in 1..MOST_TASKS {
             for cell in 0..=3 {
@@ -135,7 +72,7 @@ fn a_mark_of_a_quiet_task_breaks_fact_2_in_every_cell() {
 
 #[test]
 fn the_mark_of_a_busy_task_breaks_no_fact_and_that_of_the_same_task_before_and_after_does() {
-    let set = Script::of_a_set();
+    let set = script_of_a_set();
     for (line, found) in [
         (START, "fact 2"),
         (BEGUN, "nothing"),
@@ -150,7 +87,7 @@ fn the_mark_of_a_busy_task_breaks_no_fact_and_that_of_the_same_task_before_and_a
 /// Holders 2 and 3 are the idle and the reading task, and those from 4 up aren't there.
 #[test]
 fn a_quiet_holder_breaks_fact_3() {
-    let set = Script::of_a_set();
+    let set = script_of_a_set();
     for line in [BEGUN, ANNOUNCED, HELD, ANSWERED] {
         for holder in 2..16 {
             let altered = set.altered(line, |cells| cells[0] = cells[0] & !(15 << 24) | holder << 24);
@@ -163,7 +100,7 @@ fn a_quiet_holder_breaks_fact_3() {
 
 #[test]
 fn another_state_breaks_fact_4_at_every_print() {
-    let set = Script::of_a_set();
+    let set = script_of_a_set();
     for line in set.prints() {
         for bit in 8..16 {
             let altered = set.altered(line, |cells| cells[0] ^= 1 << bit);
@@ -172,36 +109,124 @@ fn another_state_breaks_fact_4_at_every_print() {
     }
 }
 
+/// In a held head it is the holder's response too.
 #[test]
-fn a_state_at_the_place_of_the_response_breaks_fact_4() {
-    let set = Script::of_a_set();
-    for line in [HELD, ANSWERED, AT_REST] {
+fn a_state_at_the_place_of_the_response_is_found() {
+    let set = script_of_a_set();
+    for (line, found) in [(HELD, "carried"), (ANSWERED, "fact 4"), (AT_REST, "fact 4")] {
         let altered = set.altered(line, |cells| cells[0] = cells[0] & !0x100 | 0x1_0000);
-        assert_eq!(altered.found(line), "fact 4", "line {line}");
+        assert_eq!(altered.found(line), found, "line {line}");
+    }
+    let unheld = set.altered(HELD, |cells| cells[0] = 0x100);
+    assert_eq!(unheld.found(HELD), "fact 4");
+}
+
+/// A holder's reply, or one in an announcement, is that of an operation that has been entered; what has none, or is
+/// announced, is the operation that was begun and hasn't been entered.
+#[test]
+fn what_the_cells_carry_of_an_operation_agrees_with_some_order() {
+    let set = script_of_a_set();
+    for (line, cell, bits) in [
+        (BEGUN, 1, 0x0002_0100),
+        (BEGUN, 1, 0x0100_0200),
+        (ANNOUNCED, 0, 1 << 24),
+        (ANNOUNCED, 1, 3 << 16),
+        (ANNOUNCED, 1, 3 << 8),
+        (HELD, 0, 1 << 16),
+        (HELD, 0, 1 << 28),
+        (ANSWERED, 1, 1 << 16),
+        (ANSWERED, 1, 1 << 24),
+        (ANSWERED, 1, 0x0100_0200),
+    ] {
+        let altered = set.altered(line, |cells| cells[cell] ^= bits);
+        assert_eq!(altered.found(line), "carried", "line {line}: {bits:x}");
     }
 }
 
-/// A holder's reply, or one in an announcement, is that of an operation that has been entered.
+/// Lines on four rings, how often each is given, with a print after every one, and the tasks that are busy then.
+const TWO_RUNS: [(&str, usize, &[usize]); 24] = [
+    ("n 8", 1, &[]),
+    ("s 7", 1, &[]), // refused
+    ("b 7 1", 1, &[7]),
+    ("b 6 0", 1, &[7]),
+    ("s 7", 3, &[7]),
+    ("?", 1, &[7]), // refused
+    ("s 7", 4, &[7]),
+    ("b 7 1", 1, &[7]), // refused
+    ("b 2 1", 1, &[2, 7]),
+    ("s 2", 4, &[2, 7]),
+    ("b 8 1", 1, &[2, 7]), // refused
+    ("d 7", 1, &[2]),
+    ("d 2", 1, &[]),
+    ("b 0 1", 1, &[0]),
+    ("n 9", 1, &[0]), // refused
+    ("n 5", 1, &[]),
+    ("b 4 1", 1, &[4]),
+    ("b 1 0", 1, &[4]),
+    ("s 4", 7, &[4]),
+    ("s 5", 1, &[4]), // refused
+    ("b 3 1", 1, &[3, 4]),
+    ("s 3", 3, &[3, 4]),
+    ("d 3", 1, &[4]),
+    ("d 4", 1, &[]),
+];
+
+/// The script, and with the number of every print the tasks that are busy then.
+fn two_runs() -> (Script, Vec<(usize, &'static [usize])>) {
+    let rings = ring_table(&[1, ORDINARY].repeat(4)).unwrap();
+    let input: String = TWO_RUNS
+        .iter()
+        .map(|(line, times, _)| format!("{line}\nm\n").repeat(*times))
+        .collect();
+    let script = Script::served_on(rings, Rules::MACHINE, input.as_bytes());
+    let busy = TWO_RUNS
+        .iter()
+        .flat_map(|&(_, times, busy)| std::iter::repeat_n(busy, times));
+    let prints = script.prints().into_iter().zip(busy).collect();
+    (script, prints)
+}
+
 #[test]
-fn a_reply_that_no_order_gives_breaks_fact_4() {
-    let set = Script::of_a_set();
-    let held = |cells: &mut Vec<u64>| cells[0] |= 0x0100_0000;
-    assert_eq!(set.altered(ANNOUNCED, held).found(ANNOUNCED), "fact 4");
-    for bit in [16, 28] {
-        assert_eq!(
-            set.altered(HELD, |cells| cells[0] ^= 1 << bit).found(HELD),
-            "fact 4"
-        );
-    }
-    for bit in [16, 24] {
-        let altered = set.altered(ANSWERED, |cells| cells[1] ^= 1 << bit);
-        assert_eq!(altered.found(ANSWERED), "fact 4");
+fn the_two_runs_have_five_states_six_refused_lines_and_held_heads() {
+    let (script, prints) = two_runs();
+    assert_eq!(script.lines[0].1.as_deref(), Some("n 8 5 3"));
+    let refused = |printed: &Option<String>| printed.as_ref().is_some_and(|text| text.starts_with('x'));
+    assert_eq!(script.lines.iter().filter(|line| refused(&line.1)).count(), 6);
+    assert_eq!(prints.len(), script.prints().len());
+    let seen = script.audit().unwrap();
+    assert_eq!(seen.prints, prints.len());
+    assert!(seen.with_holder > 5 && seen.with_reader > 20, "{seen:?}");
+}
+
+/// In each print of two runs a kind of every quiet task, a mark of every task in every cell, every quiet holder, those that
+/// aren't there among them, and every bit of the state are altered one at a time.
+#[test]
+fn whatever_is_altered_in_two_runs_of_many_tasks_is_found() {
+    let (script, prints) = two_runs();
+    for (line, busy) in prints {
+        let cells = script.cells(line).len();
+        let assert_found = |cell: usize, bits: u64, fact: &str| {
+            let altered = script.altered(line, |cells| cells[cell] ^= bits);
+            assert_eq!(altered.found(line), fact, "line {line}, cell {cell}: {bits:x}");
+        };
+        let quiet = |task: &usize| !busy.contains(task);
+        for task in (0..cells - 1).filter(quiet) {
+            (1..4).for_each(|kind| assert_found(task + 1, kind << 8, "fact 1"));
+        }
+        for task in (0..MOST_TASKS).filter(quiet) {
+            (0..cells).for_each(|cell| assert_found(cell, 1 << task, "fact 2"));
+        }
+        let old = script.cells(line)[0] >> 24 & 15;
+        for task in (0..15).filter(quiet) {
+            assert_found(0, (old ^ (task as u64 + 1)) << 24, "fact 3");
+        }
+        (8..16).for_each(|bit| assert_found(0, 1 << bit, "fact 4"));
     }
 }
 
 #[test]
 fn the_number_of_cells_and_the_count_of_marks_are_tested() {
-    let set = Script::of_a_set();
+    let set = script_of_a_set();
     let short = set.altered(HELD, |cells| cells.truncate(3));
     let long = set.altered(HELD, |cells| cells.push(0));
     assert_eq!(short.found(HELD), "3 cells for 3 tasks");
@@ -216,8 +241,8 @@ fn the_number_of_cells_and_the_count_of_marks_are_tested() {
 /// The set ends in line 39, with response 0 and moved.
 #[test]
 fn an_answer_that_no_order_gives_is_refused() {
-    let set = Script::of_a_set();
-    assert_eq!(set.0[38].1.as_deref(), Some("r 0 0 1"));
+    let set = script_of_a_set();
+    assert_eq!(set.lines[38].1.as_deref(), Some("r 0 0 1"));
     for answer in ["r 0 1 1", "r 0 0 0"] {
         assert_eq!(set.printing(39, answer).found(39), "fact 4");
     }
@@ -232,7 +257,7 @@ fn an_answer_that_no_order_gives_is_refused() {
 /// The read ends in line 41; it was pending in both states.
 #[test]
 fn a_read_may_have_been_entered_in_every_state_since_its_begin() {
-    let set = Script::of_a_set();
+    let set = script_of_a_set();
     for (answer, found) in [
         ("r 2 0 0", "nothing"),
         ("r 2 1 0", "nothing"),
@@ -253,7 +278,7 @@ fn a_read_may_have_been_entered_in_every_state_since_its_begin() {
 fn in_a_drive_several_operations_may_be_entered() {
     let lines = b"n 2\nm\nb 0 1\nm\nd 0\nm\nb 1 2\nm\ns 1\nm\nb 0 1\nm\nd 0\nm\n";
     let drive = Script::served_by(Rules::MACHINE, lines);
-    assert_eq!(drive.0[12].1.as_deref(), Some("r 0 0 1"));
+    assert_eq!(drive.lines[12].1.as_deref(), Some("r 0 0 1"));
     assert_eq!(drive.cells(14), [0x100, 0, 0x0101_0200]);
     assert!(drive.audit().is_ok());
     assert_eq!(drive.printing(13, "r 0 1 0").found(14), "fact 4");
@@ -317,18 +342,25 @@ fn the_prints_of_the_right_machine_break_no_fact() {
     assert_eq!(broken_by(Rules::MACHINE), (BTreeSet::new(), 0));
 }
 
-/// Who empties its announcement without a look at the head may leave its mark there too, which is seen first.
+/// The numbers are those of docs/WRONG_BUILDS.md, "in prints". Who empties its announcement without a look at the head may
+/// leave its mark there too, which is seen first.
 #[test]
 fn the_prints_of_wrong_builds_break_the_facts() {
-    for (rules, facts, least) in [
-        (wrong_prints::response_keeps_mark(), &["fact 2"][..], 5),
-        (wrong_prints::exit_keeps_mark(), &["fact 2"], 5),
-        (wrong_prints::exit_keeps_head(), &["fact 2", "fact 3"], 3),
-        (wrong_prints::validate_keeps_mark(), &["fact 2"], 3),
-        (wrong_prints::reading_announced(), &["fact 1"], 30),
+    for (rules, facts, scripts) in [
+        (wrong_prints::response_keeps_mark(), &["fact 2"][..], 17),
+        (wrong_prints::validate_keeps_mark(), &["fact 2"], 10),
+        (wrong_prints::empty_keeps_mark(), &["fact 2"], 13),
+        (wrong_prints::exit_keeps_mark(), &["fact 2"], 14),
+        (wrong_prints::exit_keeps_head(), &["fact 2", "fact 3"], 5),
+        (wrong_prints::reading_announced(), &["fact 1"], 67),
     ] {
-        let (found, scripts) = broken_by(rules);
-        assert_eq!(Vec::from_iter(found), facts);
-        assert!(scripts >= least, "{facts:?} in {scripts} scripts");
+        let (found, refused) = broken_by(rules);
+        assert_eq!(
+            (found, refused),
+            (
+                BTreeSet::from_iter(facts.iter().map(|fact| fact.to_string())),
+                scripts
+            )
+        );
     }
 }

@@ -7,6 +7,8 @@ pub mod audit_bench;
 mod audit_cases;
 #[cfg(test)]
 mod audit_tests;
+#[cfg(test)]
+mod audited_script;
 pub mod bench;
 mod book;
 pub mod calls;

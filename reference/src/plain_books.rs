@@ -205,7 +205,7 @@ impl Books<'_> {
         match (self.books.is_empty(), reached.is_empty()) {
             (false, _) => Ok(()),
             (true, true) => {
-                Err("fact 4: no order agrees with what the cells show of each operation".to_string())
+                Err("carried: no order agrees with what the cells show of each operation".to_string())
             }
             (true, false) => Err(format!(
                 "fact 4: cell 0 has state {state}, the order has reached {reached:?}"

@@ -27,7 +27,7 @@ pub fn response_keeps_mark() -> Rules {
 }
 
 /// The same with an announcement that is found empty.
-fn empty_keeps_mark() -> Rules {
+pub fn empty_keeps_mark() -> Rules {
     leaving!(|_, phase, own, _, right| {
         let empty = Announcement::decode(own.announcement) == Announcement::Empty;
         match (phase, right.known_phase()) {
