@@ -1,4 +1,4 @@
-//! Holds the prints of the proved bench to the four facts of mid-work, in generated scripts.
+//! Holds the prints of a bench, given by its path, to the four facts of mid-work, in generated scripts.
 
 use std::fs;
 use std::path::Path;
@@ -27,7 +27,7 @@ pub fn audit_bench(path: &str, scripts: u64) -> Result<String, String> {
     }
     remove(&root)?;
     Ok(format!(
-        "audit-bench: {scripts} scripts of the proved bench, {}",
+        "audit-bench: {scripts} scripts on {path}, {}",
         summary(seen)
     ))
 }

@@ -264,6 +264,7 @@ mod tests {
     #[test]
     fn a_refused_call_leaves_every_point_as_it_is() {
         assert_refused_calls_keep_points(&still_object(), 2);
+        assert_refused_calls_keep_points(&explored_objects()[0], 2);
         for object in explored_objects() {
             assert_refused_calls_keep_points(&object, 1);
         }

@@ -31,14 +31,13 @@ pub enum Event {
     },
 }
 
-/// What a book has for a task. A reading operation moves no state that can be reached, so its entering changes nothing but
-/// its own page. It is left open: the page collects the replies of all states that the book has come to since the begin,
-/// and stands for a page that waits and for one that is done with any of these replies.
+/// What a book has for a task.
 #[derive(Clone, Debug, PartialEq, Eq, PartialOrd, Ord)]
 pub enum Page {
     Idle,
     Waiting(usize),
     Done(Reply),
+    /// Not entered, as that would move nothing, but with the replies of all states that the book has come to since the begin.
     Reading {
         operation: usize,
         replies: BTreeSet<Reply>,
@@ -67,6 +66,17 @@ impl PlainBook {
             }
         }
         Some(entered)
+    }
+
+    /// The books after the entering of one task that is not against what is seen later.
+    fn all_entered(&self, table: &Table, later: &Later) -> Vec<PlainBook> {
+        let agrees = |entered: &PlainBook, task: usize| {
+            let page = later[task].as_ref();
+            page.is_none_or(|page| entered.pages[task] == *page)
+        };
+        (0..self.pages.len())
+            .filter_map(|task| self.entered(table, task).filter(|entered| agrees(entered, task)))
+            .collect()
     }
 
     fn begun(mut self, table: &Table, task: usize, operation: usize) -> PlainBook {
@@ -170,14 +180,9 @@ impl Books<'_> {
     fn enter(&mut self, later: &Later) {
         let mut front = Vec::from_iter(self.books.iter().cloned());
         while let Some(book) = front.pop() {
-            for (task, later) in (0..book.pages.len()).zip(later) {
-                let entered = book.entered(self.table, task);
-                let agrees =
-                    |entered: &PlainBook| later.as_ref().is_none_or(|page| entered.pages[task] == *page);
-                if let Some(entered) = entered.filter(agrees) {
-                    if self.books.insert(entered.clone()) {
-                        front.push(entered);
-                    }
+            for entered in book.all_entered(self.table, later) {
+                if self.books.insert(entered.clone()) {
+                    front.push(entered);
                 }
             }
         }
@@ -230,19 +235,23 @@ mod tests {
     /// Whoever waits may be entered.
     fn closed(table: &Table, mut books: BTreeSet<WholeBook>) -> BTreeSet<WholeBook> {
         let mut front = Vec::from_iter(books.iter().cloned());
-        while let Some((state, pages)) = front.pop() {
-            for task in 0..pages.len() {
-                if let Page::Waiting(operation) = pages[task] {
-                    let mut entered = pages.clone();
-                    entered[task] = Page::Done(table.reply(state, operation));
-                    let book = (usize::from(table.entry(state, operation).next), entered);
-                    if books.insert(book.clone()) {
-                        front.push(book);
-                    }
+        while let Some(book) = front.pop() {
+            for entered in (0..book.1.len()).filter_map(|task| entered(table, &book, task)) {
+                if books.insert(entered.clone()) {
+                    front.push(entered);
                 }
             }
         }
         books
+    }
+
+    fn entered(table: &Table, (state, pages): &WholeBook, task: usize) -> Option<WholeBook> {
+        let Page::Waiting(operation) = pages[task] else {
+            return None;
+        };
+        let mut entered = pages.clone();
+        entered[task] = Page::Done(table.reply(*state, operation));
+        Some((usize::from(table.entry(*state, operation).next), entered))
     }
 
     /// The book after an event, if it agrees with it.
