@@ -87,23 +87,11 @@ impl Transition<'_> {
         self.check_potentials()
     }
 
-    /// The image at rest and the answer.
-    pub fn check_service(&self, book: &mut Book) -> Result<(), String> {
-        self.check_rest()?;
-        self.check_answer(book)
-    }
-
     pub fn check_rest(&self) -> Result<(), String> {
         match self.after.is_at_rest(self.table) && !self.after.shows_image() {
             true => Err("the cells at rest are not the image".to_string()),
             false => Ok(()),
         }
-    }
-
-    /// Refusals, the book's answer and the one step of a reading operation.
-    pub fn check_answer(&self, book: &mut Book) -> Result<(), String> {
-        self.check_booked(book)?;
-        self.check_reader()
     }
 
     /// Refusals and the book's answer; the ceiling is kept because a step past it would be refused with 11.
@@ -178,6 +166,21 @@ impl Transition<'_> {
         point
             .has_changing_pending(self.table, task)
             .then(|| potential(point, task))
+    }
+}
+
+#[cfg(test)]
+impl Transition<'_> {
+    /// The image at rest and the answer.
+    pub fn check_service(&self, book: &mut Book) -> Result<(), String> {
+        self.check_rest()?;
+        self.check_answer(book)
+    }
+
+    /// Refusals, the book's answer and the one step of a reading operation.
+    pub fn check_answer(&self, book: &mut Book) -> Result<(), String> {
+        self.check_booked(book)?;
+        self.check_reader()
     }
 }
 
