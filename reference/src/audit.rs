@@ -79,7 +79,7 @@ pub fn watch(table: &Table, script: &[Served]) -> (Vec<(usize, Event)>, Result<S
     (events, Ok(auditor.seen))
 }
 
-/// Follows a script line by line. What is pending is kept from the lines and what is printed for them.
+/// Follows a script line by line, with what is pending kept from the lines and what is printed for them.
 struct Auditor<'a> {
     table: &'a Table<'a>,
     /// Nothing before the first accepted start.
@@ -88,7 +88,7 @@ struct Auditor<'a> {
 }
 
 impl Auditor<'_> {
-    /// What happened in a line. Facts 1 to 3 are tested here, fact 4 by the books, which are fed with what happened.
+    /// What happened in a line, with facts 1 to 3 tested; fact 4 is left to the books, which are fed with what happened.
     fn watch(&mut self, served: &Served) -> Result<Option<Event>, String> {
         let printed = match served.printed {
             None => None,
@@ -199,8 +199,8 @@ fn expect(expected: Option<Printed>, printed: Option<Printed>) -> Result<(), Str
     }
 }
 
-/// What the cells show of the changing operations that are pending. One that has a reply, in the head or in its own
-/// announcement, has been entered with it; any other hasn't been entered: it waits there, or isn't announced yet.
+/// What the cells show of each changing operation that is pending: with a reply, in the head or in its own announcement, it has
+/// been entered with that reply, and without one it hasn't been entered.
 fn shown_pages(table: &Table, pending: &Pending, cells: &[u64]) -> Vec<(usize, Page)> {
     let holder = Head::decode(cells[HEAD_CELL]).holder;
     let mut pages = Vec::new();

@@ -12,7 +12,7 @@ use crate::script_cases::Script;
 
 pub const AUDITED_SCRIPTS: u64 = 500;
 
-/// The summary line, or the first script that breaks a fact. Its folder is kept.
+/// The summary line, or the first script that breaks a fact, with its folder, which is kept.
 pub fn audit_bench(path: &str, scripts: u64) -> Result<String, String> {
     let program = find_program(path)?;
     let root = std::env::temp_dir().join(format!("reference-audit-{}", std::process::id()));

@@ -198,8 +198,8 @@ fn the_two_runs_have_five_states_six_refused_lines_and_held_heads() {
     assert!(seen.with_holder > 5 && seen.with_reader > 20, "{seen:?}");
 }
 
-/// In each print of two runs a kind of every quiet task, a mark of every task in every cell, every quiet holder, those that
-/// aren't there among them, and every bit of the state are altered one at a time.
+/// In each print of two runs are altered, one at a time: the kind of every quiet task, the mark of every task in every cell,
+/// which only breaks a fact if the task is quiet, the holder to every quiet task, and every bit of the state.
 #[test]
 fn whatever_is_altered_in_two_runs_of_many_tasks_is_found() {
     let (script, prints) = two_runs();
@@ -213,8 +213,9 @@ fn whatever_is_altered_in_two_runs_of_many_tasks_is_found() {
         for task in (0..cells - 1).filter(quiet) {
             (1..4).for_each(|kind| assert_found(task + 1, kind << 8, "fact 1"));
         }
-        for task in (0..MOST_TASKS).filter(quiet) {
-            (0..cells).for_each(|cell| assert_found(cell, 1 << task, "fact 2"));
+        for task in 0..MOST_TASKS {
+            let found = if quiet(&task) { "fact 2" } else { "nothing" };
+            (0..cells).for_each(|cell| assert_found(cell, 1 << task, found));
         }
         let old = script.cells(line)[0] >> 24 & 15;
         for task in (0..15).filter(quiet) {
@@ -273,7 +274,7 @@ fn a_read_may_have_been_entered_in_every_state_since_its_begin() {
 }
 
 /// Task 0 has applied its first set, so in its second operation it helps task 1 before itself: line 13 enters a clear and then
-/// a set. The other way round the state would be 0 after it.
+/// a set, and the other way round the state would be 0 after it.
 #[test]
 fn in_a_drive_several_operations_may_be_entered() {
     let lines = b"n 2\nm\nb 0 1\nm\nd 0\nm\nb 1 2\nm\ns 1\nm\nb 0 1\nm\nd 0\nm\n";
@@ -304,7 +305,7 @@ fn a_refused_line_prints_its_number_and_an_accepted_begin_nothing() {
     }
 }
 
-/// Task 2 reads throughout. Task 1 has linked the head while task 0 held it, and helps late: line 54 shows its mark in the
+/// Task 2 reads throughout, and task 1 has linked the head while task 0 held it, and helps late: line 54 shows its mark in the
 /// announcement that task 0 has emptied.
 #[test]
 fn the_stored_listing_in_mid_work_shows_what_it_is_for() {
@@ -342,7 +343,7 @@ fn the_prints_of_the_right_machine_break_no_fact() {
     assert_eq!(broken_by(Rules::MACHINE), (BTreeSet::new(), 0));
 }
 
-/// The numbers are those of docs/WRONG_BUILDS.md, "in prints". Who empties its announcement without a look at the head may
+/// The numbers are those of docs/WRONG_BUILDS.md, "in prints"; who empties its announcement without a look at the head may
 /// leave its mark there too, which is seen first.
 #[test]
 fn the_prints_of_wrong_builds_break_the_facts() {

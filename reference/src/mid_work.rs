@@ -70,7 +70,7 @@ pub fn check(table: &Table, pending: &Pending, reached: usize, cells: &[u64]) ->
     check_state(reached, cells)
 }
 
-/// The first of facts 1 to 3 that does not hold. There are as many cells as the tasks need.
+/// The first of facts 1 to 3 that does not hold of cells that are as many as the tasks need.
 pub fn check_cells(table: &Table, pending: &Pending, cells: &[u64]) -> Result<(), String> {
     let quiet = |task: &usize| pending.is_quiet(table, *task);
     (0..pending.tasks)

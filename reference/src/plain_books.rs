@@ -143,8 +143,8 @@ pub fn check(table: &Table, events: &[Event]) -> Result<(), (usize, String)> {
     Ok(())
 }
 
-/// The books that agree with all that was seen so far, and enter nobody against what is seen later. A book that did would
-/// agree with nothing then, so none is missed.
+/// The books that agree with all that was seen so far, but for those that enter somebody against what is seen later: these
+/// would agree with nothing then.
 struct Books<'a> {
     table: &'a Table<'a>,
     books: BTreeSet<PlainBook>,

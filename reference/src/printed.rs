@@ -83,7 +83,7 @@ pub struct Served<'a> {
     pub printed: Option<&'a str>,
 }
 
-/// Parts what was printed among the lines of a script. A call may print nothing; what is printed next is its own unless it
+/// Parts what was printed among the lines of a script: a call may print nothing, and what is printed next is its own unless it
 /// is what the `m` prints that must follow every call.
 pub fn part<'a>(input: &'a [u8], output: &'a str) -> Result<Vec<Served<'a>>, String> {
     let lines = split_lines(input);

@@ -109,7 +109,7 @@ fn assert_said(check: Check, rules: Rules, reason: &str) {
     assert!(found.starts_with(reason), "{found}");
 }
 
-/// In all schedules of two tasks and in long ones of three, clause and fact find the build. All other checks find nothing:
+/// In all schedules of two tasks and in long ones of three, clause and fact find the build, and all other checks find nothing:
 /// answers, book, image at rest, what the cells carry, what empties an announcement, potential and longest operation.
 fn assert_found_alone(rules: Rules, clause: &str, fact: &str) {
     for tasks in [2, 3] {
@@ -221,8 +221,8 @@ fn check_state_of_book(made: &Transition, book: &mut Book) -> Result<(), String>
     check_state(book.state, made.after.cells())
 }
 
-/// A task alone ends its operations in the order of their applies, so answers, order and rest don't tell when they are
-/// entered. With more tasks the answers do.
+/// A task alone ends its operations in the order of their applies, so answers, order and rest don't tell when they are entered;
+/// with more tasks the answers do.
 #[test]
 fn a_book_that_enters_an_operation_at_its_end() {
     assert_eq!(run_with_late_book(1, check_rest_of_book), Ok(()));
