@@ -3,7 +3,7 @@ ghost use Rattle.std.specs.Prelude.{◌≡◌, ◌≤◌, length};
 ghost use Rattle.bytes.specs.Bytes.{index_of};
 ghost use Rattle.bench_lines.specs.Command.{space, is_digit, digits_of, decimal_of, fields_of, alone, with_one, with_two, after_number, after_letter, command_of};
 
-#[derive(Drop)]
+#[derive(Clone, Copy)]
 pub enum Command {
     Start { tasks: u16 },
     Begin { task: u16, operation: u16 },
@@ -14,7 +14,7 @@ pub enum Command {
 }
 
 // A field read as a number.
-#[derive(Drop)]
+#[derive(Clone, Copy)]
 pub enum Number {
     Of(u16),
     Nothing,
@@ -30,6 +30,7 @@ fn is_digit(byte: u8) -> bool
 }
 
 // The number that three digits write.
+#[tactic(auto, using(crate::proofs::Fields::digit_range), unfolding(crate::specs::Command::digits_of))]
 fn three_digits(hundreds: u8, tens: u8, ones: u8) -> Number
     ensures { result ≡ digits_of hundreds tens ones }
 {
@@ -49,6 +50,7 @@ fn three_digits(hundreds: u8, tens: u8, ones: u8) -> Number
 }
 
 // The number of one to three digits that a field writes.
+#[tactic(auto, using(crate::proofs::Fields::decimal_of_one, crate::proofs::Fields::decimal_of_two, crate::proofs::Fields::decimal_of_three, crate::proofs::Fields::decimal_of_none))]
 fn read_number(field: &[u8]) -> Number
     ensures { result ≡ decimal_of field.now }
 {
@@ -61,6 +63,7 @@ fn read_number(field: &[u8]) -> Number
 }
 
 // The length of the first field: where the first space stands, or the end.
+#[tactic(auto, unfolding(bytes::specs::Bytes::slice))]
 fn field_end(line: &[u8]) -> usize
     ensures { (result ≡ index_of space line.now) × (result ≤ length line.now) }
 {
@@ -106,6 +109,7 @@ fn with_two(letter: u8, first: Number, second: Number) -> Command
 }
 
 // After a letter and a number: one number more, and nothing else.
+#[tactic(auto, using(crate::proofs::Fields::one_field, crate::proofs::Fields::first_field))]
 fn after_number(letter: u8, first: Number, rest: &[u8]) -> Command
     ensures { result ≡ after_number letter first (fields_of rest.now) }
 {
@@ -117,6 +121,7 @@ fn after_number(letter: u8, first: Number, rest: &[u8]) -> Command
 }
 
 // After a letter: one number or two.
+#[tactic(auto, using(laws::proofs::Lists::to_the_end, crate::proofs::Fields::one_field, crate::proofs::Fields::first_field))]
 fn after_letter(letter: u8, rest: &[u8]) -> Command
     ensures { result ≡ after_letter letter (fields_of rest.now) }
 {
@@ -129,6 +134,7 @@ fn after_letter(letter: u8, rest: &[u8]) -> Command
 }
 
 // The meaning of a line, which stands without its closing byte 10.
+#[tactic(auto, using(laws::proofs::Lists::to_the_end, crate::proofs::Fields::command_of_none, crate::proofs::Fields::command_of_one, crate::proofs::Fields::command_of_more))]
 pub fn parse(line: &[u8]) -> Command
     ensures { result ≡ command_of line.now }
 {

@@ -1,4 +1,6 @@
 // The lines of the bench: what a line of input means, and the lines that are printed.
+#![tactic(auto)]
+
 pub mod command;
 pub mod reply;
 pub mod text;

@@ -9,7 +9,7 @@ use cells::bit;
 use refusal::Refusal;
 
 // An accepted begin and a step that answers running print nothing.
-#[derive(Drop)]
+#[derive(Clone, Copy)]
 pub enum Reply {
     Silent,
     Started {
@@ -26,7 +26,7 @@ pub enum Reply {
 }
 
 // A line of output: the first `len` bytes.
-#[derive(Drop)]
+#[derive(Clone, Copy)]
 pub struct Text {
     pub bytes: [u8; TEXT_SIZE],
     pub len: usize,
@@ -40,6 +40,7 @@ const MOST_CELLS: usize = 9;
 const NEWLINE: u8 = 10;
 
 // A letter and numbers in decimal.
+#[tactic(auto, using(crate::proofs::Texts::append_more, crate::proofs::Texts::parted_length, crate::proofs::Texts::closed))]
 fn put_number_line(out: &mut [u8], letter: u8, values: &[u64]) -> usize
     requires { (length values.now ≤ 3) × (text_size ≤ length out.old) }
     ensures { IsPrefixLen result out.new × (take result out.new ≡ number_line letter values.now) }
@@ -87,6 +88,7 @@ pub fn reply_line(reply: Reply) -> Text
 }
 
 // The cells in hex digits, and how many marks are set in them.
+#[tactic(auto, using(crate::proofs::Texts::append_more, crate::proofs::Texts::appended_as, crate::proofs::Texts::parted_length, crate::proofs::Texts::field_length, crate::proofs::Texts::closed), unfolding(crate::specs::Line::cells_line))]
 fn put_cells_line(out: &mut [u8], cells: &[u64]) -> usize
     requires { (length cells.now ≤ most_cells) × (text_size ≤ length out.old) }
     ensures { IsPrefixLen result out.new × (take result out.new ≡ cells_line cells.now) }

@@ -1,4 +1,6 @@
 // The calls for a holder of nine records by value: the first of them are lent as a row.
+#![tactic(auto)]
+
 ghost use Rattle.std.specs.Prelude.{◌≡◌};
 ghost use Rattle.bench_row.specs.First.{first_count, start_first, begin_first, step_first};
 
@@ -9,21 +11,21 @@ use stepping::answer::{BeginAnswer, StartAnswer, StepAnswer};
 const MOST: usize = 9;
 
 // The records and the answer after a start.
-#[derive(Drop)]
+#[derive(Clone, Copy)]
 pub struct StartFirst {
     pub row: [Task; 9],
     pub answer: StartAnswer,
 }
 
 // The records and the answer after a begin.
-#[derive(Drop)]
+#[derive(Clone, Copy)]
 pub struct BeginFirst {
     pub row: [Task; 9],
     pub answer: BeginAnswer,
 }
 
 // The records and the answer after a step.
-#[derive(Drop)]
+#[derive(Clone, Copy)]
 pub struct StepFirst {
     pub row: [Task; 9],
     pub answer: StepAnswer,

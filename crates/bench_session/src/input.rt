@@ -10,14 +10,14 @@ use libc::STDIN_FILENO;
 const MOST_READS: u64 = u64::MAX;
 
 // The session after a read, and whether the read gave a byte, so that there may be more.
-#[derive(Drop)]
+#[derive(Clone, Copy)]
 struct Part {
     session: Session,
     more: bool,
 }
 
 // The session after all reads, whether the last one gave a byte, and how many there were.
-#[derive(Drop)]
+#[derive(Clone, Copy)]
 struct Input {
     session: Session,
     more: bool,
@@ -25,6 +25,7 @@ struct Input {
 }
 
 // A part of the input, byte by byte.
+#[tactic(auto, using(crate::proofs::Feeds::follows_as, crate::proofs::Feeds::feed_none, crate::proofs::Feeds::feed_more))]
 fn take_all(file: &[u8], session: Session, bytes: &[u8]) -> Session
     ensures { (fed : Fed) → Follows fed session → Follows (feed file.now fed bytes.now).fed result }
 {
@@ -53,6 +54,7 @@ fn read_part(file: &[u8], session: Session) -> Part
 }
 
 // The input to its end: the first read that gives no byte is the last.
+#[tactic(auto, using(crate::proofs::Feeds::reached_none, crate::proofs::Feeds::reached_more, crate::proofs::Feeds::most_reads_lem))]
 fn read_all(file: &[u8]) -> Input
     ensures { Reached file.now result.session result.more result.reads × Stopped result.more result.reads }
 {

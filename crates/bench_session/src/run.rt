@@ -19,7 +19,7 @@ const MOST_CELLS: usize = 9;
 const MOST_TURNS: u32 = ceiling::GREATEST;
 
 // The cells and the records of the run are the first ones. Without an accepted start there are 0 tasks.
-#[derive(Drop)]
+#[derive(Clone, Copy)]
 pub struct Bench {
     pub cells: [u64; 9],
     pub row: [Task; 9],
@@ -27,7 +27,7 @@ pub struct Bench {
 }
 
 // The cells and the records after a start, and what it answered.
-#[derive(Drop)]
+#[derive(Clone, Copy)]
 pub struct Opened {
     pub cells: [u64; 9],
     pub row: [Task; 9],
@@ -35,27 +35,28 @@ pub struct Opened {
 }
 
 // What is left after a line, and what is answered.
-#[derive(Drop)]
+#[derive(Clone, Copy)]
 pub struct Handled {
     pub bench: Bench,
     pub reply: Reply,
 }
 
 // What is left after a step, and what it answered.
-#[derive(Drop)]
+#[derive(Clone, Copy)]
 pub struct Stepped {
     pub bench: Bench,
     pub answer: StepAnswer,
 }
 
 // What is left after a line, and what is printed.
-#[derive(Drop)]
+#[derive(Clone, Copy)]
 pub struct Printed {
     pub bench: Bench,
     pub text: Text,
 }
 
 // The bench before the first line.
+#[tactic(auto, using(crate::proofs::Runs::bench_of))]
 pub fn unstarted() -> Bench
     ensures { result ≡ unstarted_bench }
 {
@@ -79,6 +80,7 @@ fn cell_count(tasks: usize) -> usize
 }
 
 // Starts a run on the first of the cells and of the records.
+#[tactic(auto, unfolding(crate::specs::Run::start_held))]
 fn start_held(file: &[u8], cells: [u64; 9], row: [Task; 9], tasks: usize) -> Opened
     ensures { record { cells = result.cells; row = result.row; answer = result.answer } ≡ start_held file.now cells row tasks }
 {
@@ -95,6 +97,7 @@ fn start_held(file: &[u8], cells: [u64; 9], row: [Task; 9], tasks: usize) -> Ope
 }
 
 // An accepted start opens another run; a refused one leaves the present run as it is.
+#[tactic(auto, unfolding(crate::specs::Run::start_bench))]
 fn start(file: &[u8], bench: Bench, tasks: u16) -> Handled
     ensures { result ≡ start_bench file.now bench tasks }
 {
@@ -137,6 +140,7 @@ fn begin_reply(answer: BeginAnswer) -> Reply
     }
 }
 
+#[tactic(auto, using(crate::proofs::Runs::bench_of, crate::proofs::Runs::handled_as), unfolding(crate::specs::Run::begin_bench))]
 fn begin(file: &[u8], bench: Bench, task: u16, operation: u16) -> Handled
     ensures { result ≡ begin_bench file.now bench task operation }
 {
@@ -157,6 +161,7 @@ fn begin(file: &[u8], bench: Bench, task: u16, operation: u16) -> Handled
 }
 
 // Makes a step on the first of the cells and of the records.
+#[tactic(auto, unfolding(crate::specs::Run::step_held))]
 fn step_held(file: &[u8], cells: [u64; 9], row: [Task; 9], tasks: usize, task: usize) -> Stepped
     ensures { result ≡ step_held file.now cells row tasks task }
 {
@@ -194,6 +199,7 @@ fn step_reply(task: u16, answer: StepAnswer) -> Reply
     }
 }
 
+#[tactic(auto, using(crate::proofs::Runs::handled_as), unfolding(crate::specs::Run::step_bench))]
 fn step(file: &[u8], bench: Bench, task: u16) -> Handled
     ensures { result ≡ step_bench file.now bench task }
 {
@@ -230,6 +236,7 @@ fn runs_on(handled: Handled) -> bool
 }
 
 // Steps until the task's operation has ended, or a step is refused.
+#[tactic(auto, using(crate::proofs::Runs::finish_more, crate::proofs::Runs::finish_last, crate::proofs::Runs::finish_none, crate::proofs::Runs::most_turns_lem))]
 fn finish(file: &[u8], bench: Bench, task: u16) -> Handled
     ensures { result ≡ finish_bench file.now bench task }
 {
@@ -284,6 +291,7 @@ fn print_cells(bench: Bench) -> Printed
 }
 
 // Serves a command, with a run for every other one than a start.
+#[tactic(auto, using(crate::proofs::Runs::prints_as))]
 fn act(file: &[u8], bench: Bench, command: Command) -> Printed
     ensures { Prints result (act_of file.now bench command) }
 {
@@ -314,6 +322,7 @@ fn is_start(command: Command) -> bool
 }
 
 // Serves a command. Before an accepted start every other one is refused.
+#[tactic(auto, using(crate::proofs::Runs::prints_as, crate::proofs::Runs::serve_run, crate::proofs::Runs::serve_start, crate::proofs::Runs::serve_refused))]
 pub fn serve(file: &[u8], bench: Bench, command: Command) -> Printed
     ensures { Prints result (serve_command file.now bench command) }
 {

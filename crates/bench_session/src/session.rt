@@ -17,7 +17,7 @@ const NEWLINE: u8 = 10;
 const LONGEST_LINE: usize = 64;
 
 // The bench, and the bytes of the line that is being read. A length over 64 stands for every such length.
-#[derive(Drop)]
+#[derive(Clone, Copy)]
 pub struct Session {
     pub bench: Bench,
     pub line: [u8; 64],
@@ -25,20 +25,21 @@ pub struct Session {
 }
 
 // What is left after a byte, and what is printed for it.
-#[derive(Drop)]
+#[derive(Clone, Copy)]
 pub struct Taken {
     pub session: Session,
     pub text: Text,
 }
 
 // Whether lines are served, and what is printed before the first one.
-#[derive(Drop)]
+#[derive(Clone, Copy)]
 pub struct Tested {
     pub served: bool,
     pub text: Text,
 }
 
 // The table is tested before the first line; of one that is not served the number alone is printed.
+#[tactic(auto, using(crate::proofs::Feeds::reports_as))]
 pub(crate) fn test_table(file: &[u8]) -> Tested
     ensures { Reports result (check_of file.now) }
 {
@@ -67,6 +68,7 @@ pub(crate) fn begin() -> Session
 }
 
 // The meaning of the line that is held.
+#[tactic(auto, using(crate::proofs::Held::long_command, crate::proofs::Held::short_command))]
 fn held_command(line: [u8; 64], len: usize) -> Command
     ensures { (bytes : List ℕ) → Holds bytes line len → result ≡ command_of bytes }
 {
@@ -77,6 +79,7 @@ fn held_command(line: [u8; 64], len: usize) -> Command
 }
 
 // The line has come to its end, and is served.
+#[tactic(auto, using(crate::proofs::Held::hold_none, crate::proofs::Runs::prints_as))]
 fn end_line(file: &[u8], session: Session) -> Taken
     ensures { (fed : Fed) → Follows fed session → Yields result (end_line file.now fed) }
 {
@@ -96,6 +99,7 @@ fn end_line(file: &[u8], session: Session) -> Taken
 }
 
 // One byte more of the line.
+#[tactic(auto, using(crate::proofs::Held::hold_more, crate::proofs::Held::hold_long))]
 fn keep(session: Session, byte: u8) -> Session
     ensures { (fed : Fed) → Follows fed session → Follows (kept_byte fed byte) result }
 {
@@ -111,6 +115,7 @@ fn keep(session: Session, byte: u8) -> Session
 }
 
 // One byte of the input. Byte 10 ends a line, which is served.
+#[tactic(auto, using(crate::proofs::Feeds::yields_as, crate::proofs::Feeds::feed_newline, crate::proofs::Feeds::feed_other))]
 pub(crate) fn take_in(file: &[u8], session: Session, byte: u8) -> Taken
     ensures { (fed : Fed) → Follows fed session → Yields result (feed_byte file.now fed byte) }
 {
@@ -124,6 +129,7 @@ pub(crate) fn take_in(file: &[u8], session: Session, byte: u8) -> Taken
 }
 
 // The end of the input. A line that is not empty is served.
+#[tactic(auto, using(crate::proofs::Ends::none_held, crate::proofs::Ends::some_held, crate::proofs::Ends::spells_as))]
 pub(crate) fn finish(file: &[u8], session: Session) -> Text
     ensures { (fed : Fed) → Follows fed session → Spells result (finish_text file.now fed) }
 {

@@ -1,5 +1,7 @@
 // One file for one object: the states that can be reached from the start state, numbered in the order of first meeting, without
 // text (docs/FORMATS.md, "One file for one object").
+#![tactic(auto)]
+
 ghost use Rattle.std.specs.Prelude.{◌≡◌, ◌<◌, ◌≤◌, length};
 ghost use Rattle.std.proofs.lemmas.List.Edits.{sets};
 ghost use Rattle.table.specs.declared.Checked.TheVariants.{Accepted};
@@ -15,6 +17,7 @@ use table::{Checked, Entry, Shape};
 const ENTRY_BYTES: u32 = 2;
 
 // The entry of a new number and an operation: the next state by its new number.
+#[tactic(auto, using(crate::proofs::Arrays::few, crate::proofs::Arrays::order_long, crate::proofs::Arrays::number_long, crate::proofs::Arrays::read_small, crate::proofs::Arrays::read_some, crate::proofs::Arrays::read_renumbered))]
 fn entry_at(
     file: &[u8],
     shape: Shape,
@@ -35,6 +38,7 @@ fn entry_at(
 }
 
 // Writes the entries of a new number at a place of the room.
+#[tactic(auto, using(laws::proofs::Lists::sets_then, table_writer::proofs::ReadsBack::state_length, crate::proofs::Arrays::few_operations), unfolding(laws::specs::Joined::joined))]
 fn write_state(
     room: &mut [u8],
     at: u32,
@@ -57,6 +61,7 @@ fn write_state(
 }
 
 // Writes the entries of all new numbers at the room's start.
+#[tactic(auto, using(laws::proofs::Lists::sets_then, table_writer::proofs::ReadsBack::entries_length, crate::proofs::Arrays::few, crate::proofs::Arrays::few_operations), unfolding(laws::specs::Joined::joined))]
 fn write_states(
     room: &mut [u8],
     file: &[u8],
@@ -77,6 +82,7 @@ fn write_states(
 }
 
 // Writes the file at the room's start.
+#[tactic(auto, using(laws::proofs::Lists::sets_then, table_writer::proofs::ReadsBack::entries_length, crate::proofs::Arrays::few, crate::proofs::Arrays::few_operations), unfolding(crate::specs::Canonical::renumbered, table_writer::specs::Written::file_of))]
 fn write_file(
     room: &mut [u8],
     file: &[u8],
@@ -94,6 +100,7 @@ fn write_file(
 }
 
 // Writes the file of an accepted table at the room's start, and answers its length in bytes.
+#[tactic(auto, using(reach::proofs::Words::into_both, crate::proofs::Answers::length_small, crate::proofs::Answers::written_no_room, crate::proofs::Answers::written_fits))]
 fn write_accepted(file: &[u8], shape: Shape, room: &mut [u8]) -> Written
     requires { check_of file.now ≡ Accepted shape }
     ensures { (room.new ≡ (canonical_written file.now room.old).room) × (result ≡ (canonical_written file.now room.old).answer) }
@@ -116,6 +123,7 @@ fn write_accepted(file: &[u8], shape: Shape, room: &mut [u8]) -> Written
 }
 
 // Writes an object's file at the room's start, and answers its length in bytes.
+#[tactic(auto, using(crate::proofs::Answers::refused_written))]
 pub fn write_canonical(file: &[u8], room: &mut [u8]) -> Written
     ensures { (room.new ≡ (canonical_written file.now room.old).room) × (result ≡ (canonical_written file.now room.old).answer) }
 {

@@ -4,7 +4,7 @@ ghost use Rattle.cells.specs.Layout.{announcement_word, announcement_of};
 
 use crate::{bit, layout};
 
-#[derive(Drop)]
+#[derive(Clone, Copy)]
 pub enum Announcement {
     Empty,
     Operation(u16),
@@ -12,6 +12,7 @@ pub enum Announcement {
 }
 
 // The word of an announcement with these marks.
+#[tactic(auto, unfolding(crate::specs::Layout::announcement_word, crate::specs::Field::pack))]
 pub fn announcement_word(announcement: Announcement, marks: u8) -> u64
     ensures { result ≡ announcement_word announcement marks }
 {
@@ -28,6 +29,7 @@ pub fn announcement_word(announcement: Announcement, marks: u8) -> u64
 }
 
 // The announcement that a word holds.
+#[tactic(auto, using(crate::proofs::Fields::unpack_at, crate::proofs::Fields::unpack_places), unfolding(crate::specs::Layout::announcement_of, crate::proofs::Fields::unpack_at))]
 pub fn read_announcement(word: u64) -> Announcement
     ensures { result ≡ announcement_of word }
 {

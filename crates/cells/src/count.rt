@@ -5,6 +5,7 @@ ghost use Rattle.cells.specs.Count.{marks_in, mark_count};
 use crate::layout;
 
 // How many marks are set in a word: the count of ones of its low byte.
+#[tactic(auto, using(crate::proofs::Counts::count_ones, crate::proofs::Counts::marks_at_most), unfolding(crate::specs::Count::marks_in))]
 fn marks_in(word: u64) -> u64
     ensures { result ≡ marks_in word }
 {
@@ -12,6 +13,7 @@ fn marks_in(word: u64) -> u64
 }
 
 // How many marks are set in all cells together.
+#[tactic(auto, using(crate::proofs::Counts::count_more, crate::proofs::Counts::marks_in_most), unfolding(crate::specs::Count::mark_count))]
 pub fn count_marks(cells: &[u64]) -> u64
     ensures { result ≡ mark_count cells.now }
 {

@@ -4,7 +4,7 @@ ghost use Rattle.cells.specs.Layout.{head_word, head_of};
 
 use crate::{bit, layout};
 
-#[derive(Drop)]
+#[derive(Clone, Copy)]
 pub enum Head {
     // No task holds a response.
     Free {
@@ -20,6 +20,7 @@ pub enum Head {
 }
 
 // The word of a head with these marks.
+#[tactic(auto, unfolding(crate::specs::Layout::head_word, crate::specs::Field::pack))]
 pub fn head_word(head: Head, marks: u8) -> u64
     ensures { result ≡ head_word head marks }
 {
@@ -41,6 +42,7 @@ pub fn head_word(head: Head, marks: u8) -> u64
 }
 
 // The head that a word holds.
+#[tactic(auto, using(crate::proofs::Fields::unpack_at, crate::proofs::Fields::unpack_places), unfolding(crate::specs::Layout::head_of, crate::proofs::Fields::unpack_at))]
 pub fn read_head(word: u64) -> Head
     ensures { result ≡ head_of word }
 {

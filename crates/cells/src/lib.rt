@@ -1,5 +1,7 @@
 // The 64-bit words that the tasks share: head and announcements, their marks and forms, the image of a state, and the
 // ceiling of own steps.
+#![tactic(auto)]
+
 pub mod announcement;
 pub mod bit;
 pub mod ceiling;

@@ -8,6 +8,7 @@ use crate::layout;
 pub const NO_MARKS: u8 = 0;
 
 // The place value of a task's mark; 0 for a task beyond the marks.
+#[tactic(auto, using(crate::proofs::MarkLaws::one_shifted), unfolding(crate::specs::Layout::mark_of))]
 fn mark_of(task: usize) -> u64
     ensures { result ≡ mark_of task }
 {
@@ -18,6 +19,7 @@ fn mark_of(task: usize) -> u64
 }
 
 // Whether a task has its mark in a word; a task beyond the marks never has.
+#[tactic(auto, unfolding(crate::specs::Layout::has_mark, crate::specs::Marks::has))]
 pub fn has_mark(word: u64, task: usize) -> bool
     ensures { result ≡ has_mark task word }
 {
@@ -28,6 +30,7 @@ pub fn has_mark(word: u64, task: usize) -> bool
 }
 
 // Link: the word with a task's mark.
+#[tactic(auto, using(crate::proofs::WordMarks::add_by_place, crate::proofs::WordMarks::add_mark_below))]
 pub fn add_mark(word: u64, task: usize) -> u64
     ensures { result ≡ add_mark task word }
 {
@@ -38,6 +41,7 @@ pub fn add_mark(word: u64, task: usize) -> u64
 }
 
 // Release: the word without a task's mark.
+#[tactic(auto, using(crate::proofs::WordMarks::remove_by_place, crate::proofs::WordMarks::mark_within))]
 pub fn remove_mark(word: u64, task: usize) -> u64
     ensures { result ≡ remove_mark task word }
 {

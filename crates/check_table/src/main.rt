@@ -1,5 +1,7 @@
 // Tests the object file on standard input. A table that isn't served prints `x` and the cause's number. An accepted one
 // prints `ok`, its states, operations and start state, and for each operation 1 if it is changing and 0 if it is reading.
+#![tactic(auto)]
+
 use table::{Checked, Shape};
 
 // A space and a number.

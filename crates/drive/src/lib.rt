@@ -1,4 +1,6 @@
 // The calls on a lent row of task records: start fills it, begin and step take one record out, lend it and put it back.
+#![tactic(auto)]
+
 ghost use Rattle.std.specs.Prelude.{◌≡◌, ◌++◌, ◌<◌, ◌≤◌, length, drop};
 ghost use Rattle.records.specs.Record.{idle_task};
 ghost use Rattle.stepping.specs.Call.{idle_row, admit_start_of, start_of, begin_task, begin_of, step_task, step_of};
@@ -18,6 +20,7 @@ fn idle_at(index: usize) -> Task
 }
 
 // Tests a start and, if it is granted, fills the cells.
+#[tactic(auto, using(crate::proofs::Starts::cells_granted, crate::proofs::Starts::cells_refused))]
 fn start_cells(file: &[u8], cells: &mut [u64], tasks: usize) -> StartAnswer
     ensures { (result ≡ (admit_start_of file.now (length cells.old) tasks).answer) × (cells.new ≡ started_cells (admit_start_of file.now (length cells.old) tasks) cells.old) }
 {
@@ -117,6 +120,7 @@ fn begin_in(file: &[u8], row: &mut [Task], index: usize, operation: usize) -> Be
 }
 
 // What a begin answers for a task that has no record in the row.
+#[tactic(auto, using(crate::proofs::Calls::begin_idle))]
 fn begin_past(file: &[u8], tasks: usize, task: usize, operation: usize) -> BeginAnswer
     ensures { result ≡ (begin_task file.now tasks task operation (idle_task 0)).answer }
 {
@@ -148,6 +152,7 @@ fn step_in(file: &[u8], cells: &mut [u64], row: &mut [Task], index: usize) -> St
 }
 
 // What a step answers for a task that has no record in the row; the cells stay as they were.
+#[tactic(auto, using(crate::proofs::Calls::step_idle))]
 fn step_past(file: &[u8], cells: &mut [u64], tasks: usize, task: usize) -> StepAnswer
     ensures { (cells.new ≡ (step_task file.now cells.old tasks task (idle_task 0)).cells) × (result ≡ (step_task file.now cells.old tasks task (idle_task 0)).answer) }
 {

@@ -1,4 +1,6 @@
 // The calls for kernels in C and Rust, with those of the window, the writer, force and the ring desk: each answer is one word.
+#![tactic(auto)]
+
 ghost use Rattle.std.specs.Prelude.{◌≡◌, ◌+◌, ◌*◌};
 ghost use Rattle.cells.specs.Ceiling.{ceiling_of};
 ghost use Rattle.table.specs.Check.{check_of};
@@ -29,6 +31,7 @@ fn word(cause: u8, flags: u8, low: u16, high: u32) -> u64
 }
 
 // The flags of an operation that has ended: bit 0, and bit 1 if it moved the state.
+#[tactic(auto, using(laws::proofs::Bits::bit_below))]
 fn ended_flags(moved: bool) -> u8
     ensures { result ≡ ended_flags moved }
 {

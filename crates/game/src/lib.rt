@@ -2,6 +2,8 @@
 // force a target state within so many moves of both sides together, and the lowest operation by which it should open.
 //
 // Each side's turn is judged by the turns of the other side that may follow, the moves left falling.
+#![tactic(auto)]
+
 ghost use Rattle.std.specs.Prelude.{◌≡◌};
 ghost use Rattle.game.specs.Turns.{is_target, theirs};
 ghost use Rattle.game.specs.Force.{targets_fit, question_fits, turn_of, is_yes, force_of};
@@ -12,7 +14,7 @@ use table::{Checked, Shape};
 const MOST_MOVES: usize = 4;
 
 // What the question is answered with.
-#[derive(Drop)]
+#[derive(Clone, Copy)]
 pub enum ForceAnswer {
     // Yes: the state is a target at the outset, and no move is needed.
     Reached,
@@ -24,6 +26,7 @@ pub enum ForceAnswer {
 }
 
 // Whether a state is a target; past the targets' end none is.
+#[tactic(auto, unfolding(crate::specs::Turns::is_target))]
 fn is_target(targets: &[u8], state: u16) -> bool
     ensures { result ≡ is_target targets.now state }
 {
@@ -93,6 +96,7 @@ fn their_turn(file: &[u8], shape: Shape, targets: &[u8], left: usize, state: u16
 }
 
 // Whether the targets are a byte for each state, 0 or 1.
+#[tactic(auto, using(crate::proofs::Questions::byte_unfit, crate::proofs::Questions::bytes_fit), unfolding(crate::specs::Force::targets_fit))]
 fn targets_fit(shape: Shape, targets: &[u8]) -> bool
     ensures { result ≡ targets_fit shape targets.now }
 {
@@ -110,6 +114,7 @@ fn targets_fit(shape: Shape, targets: &[u8]) -> bool
 }
 
 // Whether moves, state and targets are in range: cause 19 does not hold.
+#[tactic(auto, unfolding(crate::specs::Force::question_fits))]
 fn question_fits(shape: Shape, state: usize, targets: &[u8], moves: usize) -> bool
     ensures { result ≡ question_fits shape state targets.now moves }
 {
@@ -126,6 +131,7 @@ fn question_fits(shape: Shape, state: usize, targets: &[u8], moves: usize) -> bo
 }
 
 // The first of causes 1 to 4 that holds, 4 on all entries, or cause 19, or whether the jack console can force a target.
+#[tactic(auto, using(crate::proofs::Questions::fits_asked, crate::proofs::Forced::forced_refused, crate::proofs::Forced::forced_unfit, crate::proofs::Forced::forced_turn))]
 pub fn force(file: &[u8], state: usize, targets: &[u8], moves: usize) -> ForceAnswer
     ensures { result ≡ force_of file.now state targets.now moves }
 {

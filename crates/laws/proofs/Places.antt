@@ -39,6 +39,7 @@ module _ {A : Type 0} where
   -- An element of a list with one more at its end stands in the list, or is the last one.
   pub at_either : (xs : List A) (x : A) {i : ℕ} {y : A} → At (xs ++ (x ∷ [])) i y → Either xs x i y
   at_either [] x here = inr (refl, refl)
+  at_either [] x {y = y} (later {i = i} a) = elim a [ ]
   at_either (_ ∷ xs) x here = inl here
   at_either (z ∷ xs) x (later {x = y} {i = i} a) = go (at_either xs x a)
     where

@@ -1,3 +1,5 @@
+#![tactic(auto)]
+
 fn main() {
     bench_session::input::serve_all();
 }

@@ -5,7 +5,7 @@ ghost use Rattle.records.specs.Phase.{phase_of, phase_number};
 use refusal::Refusal;
 
 // What the next step of a task does. The phases that work for another task name it.
-#[derive(Drop)]
+#[derive(Clone, Copy)]
 pub enum Phase {
     Idle,
     ReadOnly,
@@ -34,13 +34,14 @@ pub enum Phase {
 }
 
 // A number read as a phase.
-#[derive(Drop)]
+#[derive(Clone, Copy)]
 pub enum PhaseRead {
     Known(Phase),
     Refused(Refusal),
 }
 
 // The phase of a number. The retry phases are ranges of eight, a number for each task; another number is refused with 11.
+#[tactic(auto, using(crate::proofs::Phases::known, crate::proofs::Phases::unknown, crate::proofs::Phases::unused, crate::proofs::Phases::placed), unfolding(crate::specs::Phase::phase_of))]
 pub fn read_phase(number: u32) -> PhaseRead
     ensures { result ≡ phase_of number }
 {

@@ -10,7 +10,7 @@ use table::Shape;
 
 // Which fields a phase uses, and their forms and ranges, stand in docs/RECORDS.md. Its size is 32 bytes, without gaps.
 #[repr(C)]
-#[derive(Drop)]
+#[derive(Clone, Copy)]
 pub struct Task {
     // A saved head.
     pub head: u64,
@@ -50,6 +50,7 @@ pub fn idle_task(priority: u16) -> Task
 }
 
 // Whether a record is in the idle form.
+#[tactic(auto, unfolding(crate::specs::Record::idle_in_form))]
 pub fn idle_in_form(tasks: usize, own: Task) -> bool
     ensures { result ≡ idle_in_form tasks own }
 {
@@ -72,6 +73,7 @@ pub fn idle_in_form(tasks: usize, own: Task) -> bool
 }
 
 // Whether the task that a phase works for is below `tasks`.
+#[tactic(auto, unfolding(crate::specs::Record::names_task))]
 fn names_task(tasks: usize, phase: u32) -> bool
     ensures { result ≡ names_task tasks phase }
 {
@@ -82,6 +84,7 @@ fn names_task(tasks: usize, phase: u32) -> bool
 }
 
 // Whether the payload is an operation, in the phases that apply it.
+#[tactic(auto, unfolding(crate::specs::Record::saved_payload_in_form))]
 fn payload_in_form(operations: u16, own: Task) -> bool
     ensures { result ≡ saved_payload_in_form operations own }
 {
@@ -95,6 +98,7 @@ fn payload_in_form(operations: u16, own: Task) -> bool
 }
 
 // Whether the numbers of a pending record are in range.
+#[tactic(auto, unfolding(crate::specs::Record::numbers_in_form))]
 pub fn numbers_in_form(shape: Shape, tasks: usize, ceiling: u32, own: Task) -> bool
     ensures { result ≡ numbers_in_form shape tasks ceiling own }
 {
@@ -114,6 +118,7 @@ pub fn numbers_in_form(shape: Shape, tasks: usize, ceiling: u32, own: Task) -> b
 }
 
 // Whether the saved words of a record are in form.
+#[tactic(auto, unfolding(crate::specs::Record::words_in_form))]
 pub fn words_in_form(shape: Shape, tasks: usize, own: Task) -> bool
     ensures { result ≡ words_in_form shape tasks own }
 {
@@ -124,6 +129,7 @@ pub fn words_in_form(shape: Shape, tasks: usize, own: Task) -> bool
 }
 
 // Whether a record is in the pending form.
+#[tactic(auto, unfolding(crate::specs::Record::pending_in_form))]
 fn pending_in_form(shape: Shape, tasks: usize, ceiling: u32, own: Task) -> bool
     ensures { result ≡ pending_in_form shape tasks ceiling own }
 {
@@ -134,6 +140,7 @@ fn pending_in_form(shape: Shape, tasks: usize, ceiling: u32, own: Task) -> bool
 }
 
 // Whether a record is in the form of its phase.
+#[tactic(auto, unfolding(crate::specs::Record::record_in_form))]
 fn record_in_form(shape: Shape, tasks: usize, ceiling: u32, own: Task) -> bool
     ensures { result ≡ record_in_form shape tasks ceiling own }
 {
@@ -144,6 +151,7 @@ fn record_in_form(shape: Shape, tasks: usize, ceiling: u32, own: Task) -> bool
 }
 
 // The phase of a record; one that is out of form is refused with 11.
+#[tactic(auto, unfolding(crate::specs::Record::read_record))]
 pub fn read_record(shape: Shape, tasks: usize, ceiling: u32, own: Task) -> PhaseRead
     ensures { result ≡ read_record shape tasks ceiling own }
 {

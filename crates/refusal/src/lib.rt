@@ -1,9 +1,11 @@
 // The causes for which a call is not served, the number of each, and what a call that writes into lent room answers:
 // docs/FORMATS.md, "When a call is not served".
+#![tactic(auto)]
+
 ghost use Rattle.std.specs.Prelude.{◌≡◌};
 ghost use Rattle.refusal.specs.Number.{number_of};
 
-#[derive(Drop)]
+#[derive(Clone, Copy)]
 pub enum Refusal {
     // The file is too short or too long, or its mark is wrong.
     File,
@@ -46,7 +48,7 @@ pub enum Refusal {
 }
 
 // What a call that writes a file or a list into lent room answers.
-#[derive(Drop)]
+#[derive(Clone, Copy)]
 pub enum Written {
     // The length of what was written, in bytes or entries.
     Length(u32),

@@ -1,5 +1,7 @@
 // The ring desk: which ring owns a chainage, and the object table of a drive of so many rings (docs/FORMATS.md, "The ring
 // desk"). A list of rings has two words a ring: its length in millimetres, and its kind.
+#![tactic(auto)]
+
 ghost use Rattle.std.specs.Prelude.{◌≡◌, true, ◌+◌, ◌*◌, ◌<◌, ◌≤◌};
 ghost use Rattle.std.proofs.lemmas.List.Edits.{sets};
 ghost use Rattle.laws.specs.Below.{all_below};
@@ -24,7 +26,7 @@ const OPERATIONS: u16 = 3;
 const STATE_BYTES: u32 = 6;
 
 // What the question for an owner is answered.
-#[derive(Drop)]
+#[derive(Clone, Copy)]
 pub enum OwnerAnswer {
     // The ring's number, counted from 1.
     Ring(u16),
@@ -32,6 +34,7 @@ pub enum OwnerAnswer {
 }
 
 // Whether a ring's length and kind are in range.
+#[tactic(auto, unfolding(crate::specs::Rings::ring_fits))]
 fn ring_fits(length: u32, kind: u32) -> bool
     ensures { result ≡ ring_fits length kind }
 {
@@ -61,6 +64,7 @@ fn kind_at(rings: &[u32], place: usize) -> u32
 }
 
 // Whether every ring's length and kind are in range.
+#[tactic(auto, using(laws::proofs::Below::all_of, laws::proofs::Below::not_all))]
 fn each_ring_fits(rings: &[u32]) -> bool
     ensures { result ≡ all_below (ring_count rings.now) (λ place. ring_fits (length_of rings.now place) (kind_of rings.now place)) }
 {
@@ -75,6 +79,7 @@ fn each_ring_fits(rings: &[u32]) -> bool
 }
 
 // Whether the list has two words a ring, no ring too many or too few, and every ring in range: cause 14 does not hold.
+#[tactic(auto, unfolding(crate::specs::Rings::rings_fit))]
 fn rings_fit(rings: &[u32]) -> bool
     ensures { result ≡ rings_fit rings.now }
 {
@@ -92,6 +97,7 @@ fn rings_fit(rings: &[u32]) -> bool
 }
 
 // Whether a ring between these chainages owns a chainage.
+#[tactic(auto, unfolding(crate::specs::Owner::owns_between))]
 fn owns_between(start: u64, end: u64, kind: u32, chainage: u64) -> bool
     ensures { result ≡ owns_between start end kind chainage }
 {
@@ -105,6 +111,7 @@ fn owns_between(start: u64, end: u64, kind: u32, chainage: u64) -> bool
 }
 
 // The place of the first ring that owns a chainage; the number of rings if none does.
+#[tactic(auto, using(laws::proofs::Lowest::lowest_at, laws::proofs::Lowest::lowest_none, crate::proofs::Ranges::fits_range))]
 fn first_owner(rings: &[u32], chainage: u64) -> usize
     requires { rings_fit rings.now ≡ true }
     ensures { result ≡ first_owner rings.now chainage }
@@ -124,6 +131,7 @@ fn first_owner(rings: &[u32], chainage: u64) -> usize
 }
 
 // Which ring owns a chainage: the lowest number, if two do.
+#[tactic(auto, using(crate::proofs::Ranges::fits_range), unfolding(crate::specs::Owner::owner_of))]
 pub fn owner(rings: &[u32], chainage: u64) -> OwnerAnswer
     ensures { result ≡ owner_of rings.now chainage }
 {
@@ -169,6 +177,7 @@ fn entry(next: u16, built: u16) -> Entry
 }
 
 // Writes the entries of one state at a place of the room: read, build, take out.
+#[tactic(auto, using(laws::proofs::Lists::sets_then), unfolding(laws::specs::Joined::joined))]
 fn write_state(room: &mut [u8], at: u32, rings: u16, built: u16)
     requires { at ≤ 6 * most_rings }
     ensures { room.new ≡ sets room.old at (state_bytes desk_operations (desk_entry rings built)) }
@@ -182,6 +191,7 @@ fn write_state(room: &mut [u8], at: u32, rings: u16, built: u16)
 }
 
 // Writes the entries of all states at the room's start.
+#[tactic(auto, using(laws::proofs::Lists::sets_then, table_writer::proofs::ReadsBack::entries_length), unfolding(laws::specs::Joined::joined))]
 fn write_states(room: &mut [u8], rings: u16)
     requires { rings ≤ most_rings }
     ensures { room.new ≡ sets room.old 0 (entries_of (rings + 1) desk_operations (desk_entry rings)) }
@@ -194,6 +204,7 @@ fn write_states(room: &mut [u8], rings: u16)
 }
 
 // Writes the file of a drive of so many rings at the room's start.
+#[tactic(auto, using(laws::proofs::Lists::sets_then, table_writer::proofs::ReadsBack::entries_length), unfolding(crate::specs::Table::desk_file, table_writer::specs::Written::file_of))]
 fn write_file(room: &mut [u8], rings: u16, shape: Shape)
     requires { (rings ≤ most_rings) × (shape ≡ desk_shape rings) }
     ensures { room.new ≡ sets room.old 0 (desk_file rings) }
@@ -203,6 +214,7 @@ fn write_file(room: &mut [u8], rings: u16, shape: Shape)
 }
 
 // Writes the object table of the drive at the room's start, and answers its length in bytes.
+#[tactic(auto, using(laws::proofs::Lists::written_over, crate::proofs::Ranges::fits_range, crate::proofs::WrittenTable::file_long, crate::proofs::WrittenTable::table_no_range, crate::proofs::WrittenTable::table_no_room, crate::proofs::WrittenTable::table_written))]
 pub fn write_table(rings: &[u32], room: &mut [u8]) -> Written
     ensures { (room.new ≡ (table_of rings.now room.old).room) × (result ≡ (table_of rings.now room.old).answer) }
 {

@@ -2,35 +2,35 @@
 use records::record::Task;
 use refusal::Refusal;
 
-#[derive(Drop)]
+#[derive(Clone, Copy)]
 pub enum StartAnswer {
     Started,
     Refused(Refusal),
 }
 
 // What the tests of start find: whether it is granted, the start state, and the answer.
-#[derive(Drop)]
+#[derive(Clone, Copy)]
 pub struct Start {
     pub granted: bool,
     pub state: u16,
     pub answer: StartAnswer,
 }
 
-#[derive(Drop)]
+#[derive(Clone, Copy)]
 pub enum BeginAnswer {
     Begun,
     Refused(Refusal),
 }
 
 // The record after a begin, and the answer.
-#[derive(Drop)]
+#[derive(Clone, Copy)]
 pub struct Begin {
     pub task: Task,
     pub answer: BeginAnswer,
 }
 
 // Running, ended with the response, whether the state moved and the own steps since begin, or refused.
-#[derive(Drop)]
+#[derive(Clone, Copy)]
 pub enum StepAnswer {
     Running,
     Ended {
@@ -42,7 +42,7 @@ pub enum StepAnswer {
 }
 
 // The record after a step, and the answer.
-#[derive(Drop)]
+#[derive(Clone, Copy)]
 pub struct Step {
     pub task: Task,
     pub answer: StepAnswer,

@@ -20,7 +20,7 @@ use table::{Checked, Shape};
 use transition::{entry, next, plan};
 
 // What the tests that all calls share find: the table's shape and the ceiling of own steps, or the first cause.
-#[derive(Drop)]
+#[derive(Clone, Copy)]
 pub enum Admitted {
     Admits { ceiling: u32, shape: Shape },
     Refused(Refusal),
@@ -43,6 +43,7 @@ fn with_row(tasks: usize, checked: Checked) -> Admitted
 }
 
 // The tests that begin and step share: causes 1 to 3, then 5.
+#[tactic(auto, unfolding(crate::specs::Call::admit_of))]
 pub fn admit(file: &[u8], tasks: usize) -> Admitted
     ensures { result ≡ admit_of file.now tasks }
 {
@@ -62,6 +63,7 @@ fn refuse_start(cause: Refusal) -> Start
 
 // The tests of start on a file, a number of cells and a number of records: causes 1 to 6. If it is granted, the cells are
 // to be filled with the image of the state, and the records with idle tasks.
+#[tactic(auto, using(crate::proofs::Admission::admitted_ranges), unfolding(crate::specs::Call::admit_start_of))]
 pub fn admit_start(file: &[u8], cells: usize, tasks: usize) -> Start
     ensures { result ≡ admit_start_of file.now cells tasks }
 {
@@ -159,6 +161,7 @@ fn begin_in(
 }
 
 // Begins an operation for one task of a row, by its record; a refused call leaves the record as it was.
+#[tactic(auto, unfolding(crate::specs::Call::begin_task))]
 pub fn begin_task(file: &[u8], tasks: usize, task: usize, operation: usize, own: Task) -> Begin
     ensures { result ≡ begin_task file.now tasks task operation own }
 {
@@ -183,6 +186,7 @@ fn refuse_step(own: Task, cause: Refusal) -> Step
 
 // A step for a pending record in form: its access is planned, the touched cell and the used entry are tested, and the
 // access is made.
+#[tactic(auto, using(crate::proofs::Parts::refused, crate::proofs::Parts::cell_refused, crate::proofs::Parts::entry_refused, crate::proofs::Parts::accepted))]
 fn step_from(
     file: &[u8],
     cells: &mut [u64],
@@ -223,6 +227,7 @@ fn idle_cause(tasks: usize, own: Task) -> Refusal
 
 // A step for a record of a known phase: its form is tested by its parts, which the compiler takes in here; as one function
 // they would be a call.
+#[tactic(auto, using(crate::proofs::Parts::refused, crate::proofs::Parts::idle_refused, crate::proofs::Parts::form_refused, crate::proofs::Parts::in_form_lem, crate::proofs::Ready::ready), unfolding(records::specs::Record::pending_in_form))]
 fn step_known(
     file: &[u8],
     cells: &mut [u64],
@@ -249,6 +254,7 @@ fn step_known(
 }
 
 // A step for an admitted table.
+#[tactic(auto, using(crate::proofs::Parts::refused), unfolding(records::specs::Record::read_record))]
 fn step_in(
     file: &[u8],
     cells: &mut [u64],
@@ -277,6 +283,7 @@ fn step_in(
 }
 
 // Makes one step for one task of a row, by its record; a refused call leaves record and cells as they were.
+#[tactic(auto, using(crate::proofs::Admission::admit_ranges, crate::proofs::Parts::refused), unfolding(crate::specs::Call::step_task))]
 pub fn step_task(file: &[u8], cells: &mut [u64], tasks: usize, task: usize, own: Task) -> Step
     ensures { record { cells = cells.exit.now; task = result.task; answer = result.answer } ≡ step_task file.now cells.entry.now tasks task own }
 {

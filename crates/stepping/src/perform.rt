@@ -22,6 +22,7 @@ pub fn touched_by(access: Access) -> usize
 }
 
 // Whether the word of the touched cell is in form: as the head in cell 0, as an announcement in any other.
+#[tactic(auto, unfolding(crate::specs::Step::cell_in_form))]
 pub fn cell_in_form(shape: Shape, tasks: usize, cell: usize, word: u64) -> bool
     ensures { result ≡ cell_in_form shape tasks cell word }
 {
@@ -32,6 +33,7 @@ pub fn cell_in_form(shape: Shape, tasks: usize, cell: usize, word: u64) -> bool
 }
 
 // Makes an access; every cell but the touched one stays as it was.
+#[tactic(auto, unfolding(crate::specs::Step::perform_of))]
 pub(crate) fn perform(cells: &mut [u64], access: Access) -> Found
     requires { touched access < length cells.old }
     ensures { (result ≡ found_of (get_or cells.old (touched access) 0) access) × (cells.new ≡ perform_of cells.old access) }

@@ -1,6 +1,8 @@
 // The object file: its trailer, its dimensions and its entries, read and tested as docs/FORMATS.md says.
 //
 // Every function is total: a byte past the file's end reads as 0, and no number wraps for any argument.
+#![tactic(auto)]
+
 ghost use Rattle.std.specs.Prelude.{◌≡◌, ◌-◌, ◌*◌, ◌<◌, ◌^◌};
 ghost use Rattle.table.specs.File.{byte_at, number16, trailer_bytes, ends_in_mark, shape_of};
 ghost use Rattle.table.specs.Layout.{file_length, file_fits, dimensions_fit, length_fits, layout_of};
@@ -28,7 +30,7 @@ const GREATEST_OFFSET: u32 = 4_096;
 const ENTRY_BYTES: usize = 2;
 
 // What the trailer says.
-#[derive(Drop)]
+#[derive(Clone, Copy)]
 pub struct Shape {
     // Where the first entry stands.
     pub offset: u32,
@@ -38,14 +40,14 @@ pub struct Shape {
 }
 
 // What a table's test answers.
-#[derive(Drop)]
+#[derive(Clone, Copy)]
 pub enum Checked {
     Accepted(Shape),
     Refused(Refusal),
 }
 
 // What an operation does in a state.
-#[derive(Drop)]
+#[derive(Clone, Copy)]
 pub struct Entry {
     pub next: u16,
     pub response: u16,
@@ -81,6 +83,7 @@ fn number_at(file: &[u8], at: usize) -> u16
 }
 
 // Whether the last six bytes are the mark.
+#[tactic(auto, using(laws::proofs::Below::all_of, laws::proofs::Below::not_all), unfolding(crate::specs::File::ends_in_mark))]
 pub fn ends_in_mark(file: &[u8]) -> bool
     ensures { result ≡ ends_in_mark file.now }
 {
@@ -110,6 +113,7 @@ fn trailer_at(length: usize) -> usize
 }
 
 // What the trailer says. It is read from the file's start where the file is too short.
+#[tactic(auto, unfolding(crate::specs::File::shape_of))]
 pub fn read_shape(file: &[u8]) -> Shape
     ensures { result ≡ shape_of file.now }
 {
@@ -125,6 +129,7 @@ pub fn read_shape(file: &[u8]) -> Shape
 }
 
 // Whether the file is neither too short nor too long and ends in the mark: cause 1 does not hold.
+#[tactic(auto, unfolding(crate::specs::Layout::file_fits))]
 fn file_fits(file: &[u8]) -> bool
     ensures { result ≡ file_fits file.now }
 {
@@ -138,6 +143,7 @@ fn file_fits(file: &[u8]) -> bool
 }
 
 // Whether states, operations and start state are in range: cause 2 does not hold.
+#[tactic(auto, unfolding(crate::specs::Layout::dimensions_fit))]
 fn dimensions_fit(shape: Shape) -> bool
     ensures { result ≡ dimensions_fit shape }
 {
@@ -167,6 +173,7 @@ pub fn file_length(shape: Shape) -> usize
 }
 
 // Whether the offset is in range and text, entries and trailer make up the length: cause 3 does not hold.
+#[tactic(auto, unfolding(crate::specs::Layout::length_fits))]
 fn length_fits(length: usize, shape: Shape) -> bool
     ensures { result ≡ length_fits length shape }
 {
@@ -177,6 +184,7 @@ fn length_fits(length: usize, shape: Shape) -> bool
 }
 
 // The first of causes 1 to 3 that holds, or the file's shape.
+#[tactic(auto, unfolding(crate::specs::Layout::layout_of))]
 pub fn check_layout(file: &[u8]) -> Checked
     ensures { result ≡ layout_of file.now }
 {
@@ -194,6 +202,7 @@ pub fn check_layout(file: &[u8]) -> Checked
 }
 
 // The entry of a state and an operation.
+#[tactic(auto, unfolding(crate::specs::Entries::entry_of))]
 pub fn read_entry(file: &[u8], shape: Shape, state: u16, operation: u16) -> Entry
     ensures { result ≡ entry_of file.now shape state operation }
 {
@@ -206,6 +215,7 @@ pub fn read_entry(file: &[u8], shape: Shape, state: u16, operation: u16) -> Entr
 }
 
 // Whether one entry's next state is one of the table's states: cause 4 does not hold on it.
+#[tactic(auto, unfolding(crate::specs::Entries::entry_in_range))]
 pub fn entry_in_range(file: &[u8], shape: Shape, state: u16, operation: u16) -> bool
     ensures { result ≡ entry_in_range file.now shape state operation }
 {
@@ -214,6 +224,7 @@ pub fn entry_in_range(file: &[u8], shape: Shape, state: u16, operation: u16) -> 
 }
 
 // Whether cause 4 holds on none of one operation's entries.
+#[tactic(auto, using(laws::proofs::Below::all_of, laws::proofs::Below::not_all), unfolding(crate::specs::Entries::operation_in_range))]
 fn operation_in_range(file: &[u8], shape: Shape, operation: u16) -> bool
     ensures { result ≡ operation_in_range file.now shape operation }
 {
@@ -229,6 +240,7 @@ fn operation_in_range(file: &[u8], shape: Shape, operation: u16) -> bool
 }
 
 // Whether cause 4 holds on no entry.
+#[tactic(auto, using(laws::proofs::Below::all_of, laws::proofs::Below::not_all), unfolding(crate::specs::Entries::entries_in_range))]
 pub fn entries_in_range(file: &[u8], shape: Shape) -> bool
     ensures { result ≡ entries_in_range file.now shape }
 {
@@ -244,6 +256,7 @@ pub fn entries_in_range(file: &[u8], shape: Shape) -> bool
 }
 
 // The first of causes 1 to 4 that holds, 4 on all entries, or the file's shape.
+#[tactic(auto, unfolding(crate::specs::Check::check_of))]
 pub fn check(file: &[u8]) -> Checked
     ensures { result ≡ check_of file.now }
 {
@@ -261,6 +274,7 @@ pub fn check(file: &[u8]) -> Checked
 }
 
 // Whether an operation leads from a state to another one.
+#[tactic(auto, unfolding(crate::specs::Entries::moves))]
 pub fn moves_state(file: &[u8], shape: Shape, state: u16, operation: u16) -> bool
     ensures { result ≡ moves file.now shape state operation }
 {

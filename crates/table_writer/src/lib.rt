@@ -1,6 +1,8 @@
 // How an object file is written into lent room: its entries one after the other, then the trailer with the mark.
 //
 // Every public function is total: what would stand past the room's end is not written.
+#![tactic(auto)]
+
 ghost use Rattle.std.specs.Prelude.{◌≡◌, [], ◌∷◌, ◌≤◌, ◌^◌, set};
 ghost use Rattle.std.proofs.lemmas.List.Edits.{sets};
 ghost use Rattle.table.specs.File.{mark};
@@ -18,6 +20,7 @@ fn put(room: &mut [u8], at: usize, byte: u8)
 }
 
 // Writes two bytes.
+#[tactic(auto, using(laws::proofs::Lists::sets_then))]
 fn put_two(room: &mut [u8], at: usize, first: u8, second: u8)
     requires { at ≤ 2 ^ 33 }
     ensures { room.new ≡ sets room.old at (first ∷ second ∷ []) }
@@ -35,6 +38,7 @@ fn put16(room: &mut [u8], at: usize, value: u16)
 }
 
 // Writes a number of four bytes, the low byte first.
+#[tactic(auto, using(laws::proofs::Lists::sets_then))]
 fn put32(room: &mut [u8], at: usize, value: u32)
     requires { at ≤ 2 ^ 32 }
     ensures { room.new ≡ sets room.old at (bytes32 value) }
@@ -44,6 +48,7 @@ fn put32(room: &mut [u8], at: usize, value: u32)
 }
 
 // Writes the mark.
+#[tactic(auto, using(laws::proofs::Lists::sets_then))]
 fn put_mark(room: &mut [u8], at: usize)
     requires { at ≤ 2 ^ 33 }
     ensures { room.new ≡ sets room.old at mark }
@@ -65,6 +70,7 @@ pub fn write_entry(room: &mut [u8], at: u32, entry: Entry)
 }
 
 // Writes a trailer at a place of the room.
+#[tactic(auto, using(laws::proofs::Lists::sets_then))]
 pub fn write_trailer(room: &mut [u8], at: u32, shape: Shape)
     ensures { room.new ≡ sets room.old at (trailer_of shape) }
 {

@@ -2,7 +2,7 @@
 use records::phase::Phase;
 
 // An access to one cell, with the word compared with and the word written.
-#[derive(Drop)]
+#[derive(Clone, Copy)]
 pub enum Access {
     Read {
         cell: usize,
@@ -19,7 +19,7 @@ pub enum Access {
 }
 
 // What an access gives back: the word for a read, nothing for a write, yes or no for a swap.
-#[derive(Drop)]
+#[derive(Clone, Copy)]
 pub enum Found {
     Word(u64),
     Stored,
@@ -28,7 +28,7 @@ pub enum Found {
 }
 
 // What a step leads to.
-#[derive(Drop)]
+#[derive(Clone, Copy)]
 pub enum Next {
     // Another phase, with what it keeps: a payload, a head, an announcement.
     Go {

@@ -15,7 +15,7 @@ use records::record::Task;
 use table::Shape;
 
 // What an access told: the word that was read, 0 if none was, and whether the swap was made.
-#[derive(Drop)]
+#[derive(Clone, Copy)]
 struct Told {
     word: u64,
     made: bool,
@@ -215,6 +215,7 @@ fn after_apply(own: Task, helped: u8, made: bool) -> Next
 }
 
 // A helper goes on only with a cell that holds an operation.
+#[tactic(auto, using(crate::proofs::Defaults::no_operation))]
 fn after_linked(own: Task, helped: u8, linked: u64) -> Next
     ensures { result ≡ after_link_helped own.head helped linked (announcement_of own.announcement) }
 {
@@ -291,6 +292,7 @@ fn kept_end(payload: u32) -> Next
 }
 
 // What the step of a task leads to. The priority is the number of the task that it helps first.
+#[tactic(auto, unfolding(crate::specs::Transition::next_of))]
 pub fn next(
     file: &[u8],
     shape: Shape,

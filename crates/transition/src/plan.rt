@@ -69,6 +69,7 @@ fn swap_announcement(task: u8, own: Task, written: u64) -> Access
 }
 
 // The swap that applies the payload's operation for a task.
+#[tactic(auto, unfolding(crate::specs::Transition::plan_of))]
 fn applied(file: &[u8], shape: Shape, own: Task, task: u8) -> Access
     ensures { result ≡ plan_of file.now shape 0 0 own (Phase.Apply task) }
 {
@@ -80,6 +81,7 @@ fn applied(file: &[u8], shape: Shape, own: Task, task: u8) -> Access
 }
 
 // The access of a task's next step. The priority is the number of the task that it helps first.
+#[tactic(auto, unfolding(crate::specs::Transition::plan_of))]
 pub fn plan(file: &[u8], shape: Shape, task: u8, priority: u8, own: Task, phase: Phase) -> Access
     ensures { result ≡ plan_of file.now shape task priority own phase }
 {

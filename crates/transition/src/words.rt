@@ -93,6 +93,7 @@ pub fn moved_by(payload: u32) -> bool
 }
 
 // The head with its state alone.
+#[tactic(auto, unfolding(crate::specs::Transition::cleared_word))]
 pub fn cleared_word(word: u64) -> u64
     ensures { result ≡ cleared_word word }
 {
@@ -101,6 +102,7 @@ pub fn cleared_word(word: u64) -> u64
 }
 
 // The head after an operation of a task, by the table's entry.
+#[tactic(auto, unfolding(crate::specs::Transition::applied_word))]
 pub fn applied_word(file: &[u8], shape: Shape, word: u64, task: u8, operation: u16) -> u64
     ensures { result ≡ applied_word file.now shape word task operation }
 {
@@ -117,6 +119,7 @@ pub fn applied_word(file: &[u8], shape: Shape, word: u64, task: u8, operation: u
 }
 
 // The announcement of an operation.
+#[tactic(auto, unfolding(crate::specs::Transition::operation_word))]
 pub fn operation_word(operation: u16) -> u64
     ensures { result ≡ operation_word operation }
 {
@@ -124,6 +127,7 @@ pub fn operation_word(operation: u16) -> u64
 }
 
 // The outcome in a head, handed over.
+#[tactic(auto, unfolding(crate::specs::Transition::response_word))]
 pub fn response_word(word: u64) -> u64
     ensures { result ≡ response_word word }
 {

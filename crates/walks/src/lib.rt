@@ -1,1 +1,2 @@
 // Walks of code over lent memory, by hand: what they import and share. It has no code.
+#![tactic(auto)]

@@ -1,16 +1,18 @@
 // The register window of docs/FORMATS.md: the types that its definitions and its calls share. The calls are those of the crate
 // window_calls.
+#![tactic(auto)]
+
 use refusal::Refusal;
 
 // What a window call answers: a refused command says so in its window too.
-#[derive(Drop)]
+#[derive(Clone, Copy)]
 pub enum WindowAnswer {
     Served,
     Refused(Refusal),
 }
 
 // Whether an interrupt line is up.
-#[derive(Drop)]
+#[derive(Clone, Copy)]
 pub enum LineAnswer {
     Up,
     Down,
@@ -18,21 +20,21 @@ pub enum LineAnswer {
 }
 
 // The call of the library that a window asks for: 0 none, 1 a begin of the operation, 2 a step.
-#[derive(Drop)]
+#[derive(Clone, Copy)]
 pub struct Work {
     pub call: usize,
     pub operation: usize,
 }
 
 // Whether a task has a window.
-#[derive(Drop)]
+#[derive(Clone, Copy)]
 pub enum Place {
     Inside,
     Refused(Refusal),
 }
 
 // The named bits, and the number that the unnamed ones make.
-#[derive(Drop)]
+#[derive(Clone, Copy)]
 pub struct Status {
     pub busy: bool,
     pub done: bool,

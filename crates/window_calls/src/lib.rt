@@ -1,5 +1,7 @@
 // The calls of the register window of docs/FORMATS.md: one takes the command that stands in a task's eight bytes, makes the
 // begin or step that it asks for, and leaves there what the console reads; the other tells the interrupt line.
+#![tactic(auto)]
+
 ghost use Rattle.std.specs.Prelude.{◌≡◌, ◌+◌, ◌*◌, ◌<◌, length};
 ghost use Rattle.stepping.specs.Call.{begin_of, step_of};
 ghost use Rattle.window.specs.Window.{byte_at, status_at, place_of};
@@ -17,6 +19,7 @@ mod status;
 mod write;
 
 // The tests of every call on windows: 18 unless there are eight bytes for each task, then 7.
+#[tactic(auto, using(laws::proofs::Clash::never, window::proofs::Commands::place_unfit, window::proofs::Commands::place_past, window::proofs::Commands::place_inside))]
 fn find_window(windows: &[u8], tasks: usize, task: usize) -> Place
     ensures { (result ≡ place_of windows.now tasks task) × (result ≡ Place.Inside → 8 * task + 7 < length windows.now) }
 {
@@ -52,6 +55,7 @@ fn done_stands(windows: &[u8], task: usize) -> bool
 }
 
 // The call that the command of a task's window asks for.
+#[tactic(auto, using(window::proofs::Commands::work_steps, window::proofs::Commands::work_begins, window::proofs::Commands::work_unacknowledged, window::proofs::Commands::work_none))]
 fn work_of_command(windows: &[u8], task: usize) -> Work
     requires { 8 * task + 7 < length windows.now }
     ensures { result ≡ work_of (commanded windows.now task (byte_at windows.now task 1)) }
@@ -76,6 +80,7 @@ fn work_of_command(windows: &[u8], task: usize) -> Work
 }
 
 // The call that a window call makes.
+#[tactic(auto, using(window::proofs::Commands::asked_at))]
 fn work_of_call(windows: &[u8], tasks: usize, task: usize) -> Work
     ensures { result ≡ work_of (asked_of windows.now tasks task) }
 {
@@ -87,6 +92,7 @@ fn work_of_call(windows: &[u8], tasks: usize, task: usize) -> Work
 }
 
 // A command that is settled without the library: nothing, acknowledge, or one that is refused.
+#[tactic(auto, using(window::proofs::Commands::settled_acknowledged, window::proofs::Commands::settled_unacknowledged, window::proofs::Commands::settled_unknown, window::proofs::Commands::settled_left))]
 fn settle_command(windows: &mut [u8], task: usize) -> WindowAnswer
     requires { 8 * task + 7 < length windows.old }
     ensures { (windows.new ≡ settled_windows windows.old (commanded windows.old task (byte_at windows.old task 1))) × (result ≡ settled_answer (commanded windows.old task (byte_at windows.old task 1))) }
@@ -111,6 +117,7 @@ fn settle_command(windows: &mut [u8], task: usize) -> WindowAnswer
 }
 
 // A window call that is settled without the library.
+#[tactic(auto, using(window::proofs::Commands::asked_at))]
 fn settle(windows: &mut [u8], tasks: usize, task: usize) -> WindowAnswer
     ensures { (windows.new ≡ settled_windows windows.old (asked_of windows.old tasks task)) × (result ≡ settled_answer (asked_of windows.old tasks task)) }
 {
@@ -250,6 +257,7 @@ fn line_in(windows: &[u8], task: usize) -> LineAnswer
 }
 
 // The interrupt line of a task.
+#[tactic(auto, using(window::proofs::Commands::line_at))]
 pub fn line(windows: &[u8], tasks: usize, task: usize) -> LineAnswer
     ensures { result ≡ line_of windows.now tasks task }
 {

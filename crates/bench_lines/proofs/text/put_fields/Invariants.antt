@@ -1,0 +1,14 @@
+use mathlib.Core.Path.{◌≡◌, refl, ◌∙◌, sym, ap}
+use Prim.Native.Nat.{◌+◌, ◌*◌, ◌-◌, ◌≤◌}
+use lib.ListN.{length, take, get_or}
+use lib.Seq.{take_all}
+use borrow.Author.Rules.{rules}
+use Rattle.bench_lines.specs.Line.{Appended, parted_in, field_of}
+use Rattle.bench_lines.proofs.Texts.{append_none, append_more, appended_as, fields_more, field_length}
+use Rattle.bench_lines.proofs.text.put_fields.Given as goal
+
+abbrev pub invariant-loop-i : goal.invariant-loop-i
+invariant-loop-i l = (l.i ≤ length l.values) × ((length l.out ≡ length l.initial.out) × (Appended l.initial.out l.at (parted_in l.base (take l.i l.values)) l.out l.end × (l.end ≤ l.at + 21 * l.i)))
+
+abbrev pub decreases-loop-i : goal.decreases-loop-i
+decreases-loop-i l = length l.values - l.i

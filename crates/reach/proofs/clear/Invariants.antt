@@ -1,0 +1,12 @@
+use mathlib.Core.Path.{◌≡◌, refl}
+use Prim.Native.Nat.{◌-◌, ◌≤◌}
+use borrow.Author.Rules.{rules}
+use lib.ListN.{length, take, replicate, length-set}
+use Rattle.laws.proofs.Lists.{filled_more, filled_all}
+use Rattle.reach.proofs.clear.Given as goal
+
+abbrev pub invariant-loop-at : goal.invariant-loop-at
+invariant-loop-at l = (l.at ≤ length l.words) × (length l.words ≡ length l.initial.words) × (take l.at l.words ≡ replicate l.at 0)
+
+abbrev pub decreases-loop-at : goal.decreases-loop-at
+decreases-loop-at l = length l.words - l.at

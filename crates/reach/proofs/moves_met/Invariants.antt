@@ -1,0 +1,16 @@
+use Prim.Native.Nat.{ℕ, ◌≤◌, ◌<◌, ◌-◌}
+use mathlib.Core.Path.{◌≡◌, sym, ◌∙◌}
+use mathlib.Core.Bool.{false, ◌&&◌}
+use borrow.Author.Rules.{rules}
+use lib.Dec.{ltb}
+use lib.ListN.{get_or}
+use Rattle.laws.proofs.Below.{any_of, not_any}
+use Rattle.table.specs.Entries.{moves}
+use Rattle.reach.proofs.moves_met.Given as goal
+
+abbrev pub invariant-loop-place : goal.invariant-loop-place
+invariant-loop-place l =
+    (l.place ≤ l.count) × ((k : ℕ) → k < l.place → (ltb (get_or l.order k 0) l.shape.states && moves l.file l.shape (get_or l.order k 0) l.operation) ≡ false)
+
+abbrev pub decreases-loop-place : goal.decreases-loop-place
+decreases-loop-place l = l.count - l.place

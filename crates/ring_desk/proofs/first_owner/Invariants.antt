@@ -1,0 +1,18 @@
+use Prim.Native.Nat.{ℕ, ◌*◌, ◌<◌, ◌≤◌, ◌-◌}
+use mathlib.Core.Path.{◌≡◌, refl, sym, ◌∙◌}
+use mathlib.Core.Bool.{false}
+use mathlib.Core.List.{List}
+use native.Mathlib.Numerals.{add-one}
+use borrow.Author.Rules.{rules}
+use Rattle.laws.proofs.Lowest.{lowest_at, lowest_none}
+use Rattle.ring_desk.specs.Rings.{longest_ring, ring_count, start_of}
+use Rattle.ring_desk.specs.Owner.{owns}
+use Rattle.ring_desk.proofs.Ranges.{fits_range}
+use Rattle.ring_desk.proofs.first_owner.Given as goal
+
+abbrev pub invariant-loop-place : goal.invariant-loop-place
+invariant-loop-place l =
+    (l.place ≤ l.count) × ((l.start ≡ start_of l.rings l.place) × ((l.start ≤ longest_ring * l.place) × ((k : ℕ) → k < l.place → owns l.rings l.chainage k ≡ false)))
+
+abbrev pub decreases-loop-place : goal.decreases-loop-place
+decreases-loop-place l = l.count - l.place

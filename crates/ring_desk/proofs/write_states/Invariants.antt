@@ -1,0 +1,18 @@
+use Prim.Native.Nat.{ℕ, ◌+◌, ◌-◌, ◌≤◌}
+use mathlib.Core.Path.{◌≡◌, refl, ap, ◌∙◌}
+use native.Mathlib.Numerals.{add-one}
+use borrow.Author.Rules.{rules}
+use lib.ListN.{length}
+use lib.Seq.{sets, length-sets}
+use Rattle.laws.specs.Joined.{joined}
+use Rattle.laws.proofs.Lists.{sets_then}
+use Rattle.table_writer.specs.Written.{state_bytes, entries_of}
+use Rattle.table_writer.proofs.ReadsBack.{entries_length}
+use Rattle.ring_desk.specs.Table.{desk_operations, desk_entry}
+use Rattle.ring_desk.proofs.write_states.Given as goal
+
+abbrev pub invariant-loop-built : goal.invariant-loop-built
+invariant-loop-built l = (l.built ≤ l.rings + 1) × (l.room ≡ sets l.initial.room 0 (entries_of l.built desk_operations (desk_entry l.rings)))
+
+abbrev pub decreases-loop-built : goal.decreases-loop-built
+decreases-loop-built l = l.rings + 1 - l.built
