@@ -1,5 +1,4 @@
 use Prim.Native.Nat.{◌≤◌, ◌-◌}
-use borrow.Author.Rules.{rules}
 use Rattle.check_table.proofs.print_changing.Given as goal
 
 abbrev pub invariant-loop-operation : goal.invariant-loop-operation

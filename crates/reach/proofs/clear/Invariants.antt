@@ -1,6 +1,5 @@
 use mathlib.Core.Path.{◌≡◌, refl}
 use Prim.Native.Nat.{◌-◌, ◌≤◌}
-use borrow.Author.Rules.{rules}
 use lib.ListN.{length, take, replicate, length-set}
 use Rattle.laws.proofs.Lists.{filled_more, filled_all}
 use Rattle.reach.proofs.clear.Given as goal

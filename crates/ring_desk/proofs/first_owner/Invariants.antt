@@ -3,7 +3,6 @@ use mathlib.Core.Path.{◌≡◌, refl, sym, ◌∙◌}
 use mathlib.Core.Bool.{false}
 use mathlib.Core.List.{List}
 use native.Mathlib.Numerals.{add-one}
-use borrow.Author.Rules.{rules}
 use Rattle.laws.proofs.Lowest.{lowest_at, lowest_none}
 use Rattle.ring_desk.specs.Rings.{longest_ring, ring_count, start_of}
 use Rattle.ring_desk.specs.Owner.{owns}

@@ -2,7 +2,6 @@ use mathlib.Core.Path.{◌≡◌, refl, ◌∙◌, sym, ap}
 use Prim.Native.Nat.{◌+◌, ◌*◌, ◌-◌, ◌≤◌}
 use lib.ListN.{length, take, get_or}
 use lib.Seq.{take_all}
-use borrow.Author.Rules.{rules}
 use Rattle.bench_lines.specs.Line.{Appended, parted_in, field_of}
 use Rattle.bench_lines.proofs.Texts.{append_none, append_more, appended_as, fields_more, field_length}
 use Rattle.bench_lines.proofs.text.put_fields.Given as goal

@@ -1,6 +1,5 @@
 use mathlib.Core.Logic.{inl, inr}
 use Prim.Native.Nat.{◌-◌, ◌≤◌}
-use borrow.Author.Rules.{rules}
 use Rattle.bench_session.specs.Session.{Reached, most_reads}
 use Rattle.bench_session.proofs.Feeds.{reached_none, reached_more, most_reads_lem}
 use Rattle.bench_session.proofs.input.read_all.Given as goal

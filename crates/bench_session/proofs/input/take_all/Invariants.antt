@@ -3,7 +3,6 @@ use mathlib.Core.List.{List}
 use Prim.Native.Nat.{ℕ, ◌-◌, ◌≤◌}
 use lib.ListN.{length, take}
 use lib.Seq as Seq
-use borrow.Author.Rules.{rules}
 use Rattle.bench_session.specs.Session.{Fed, Follows, feed}
 use Rattle.bench_session.proofs.Feeds.{follows_as, feed_none, feed_more}
 use Rattle.bench_session.proofs.input.take_all.Given as goal

@@ -1,7 +1,6 @@
 use mathlib.Core.Path.{◌≡◌, refl, ap, ◌∙◌}
 use mathlib.Core.List.{List}
 use Prim.Native.Nat.{ℕ, ◌*◌, ◌-◌, ◌≤◌}
-use borrow.Author.Rules.{rules}
 use lib.ListN.{length, take, set, replicate, length-set}
 use Rattle.laws.proofs.Lists.{filled_more, filled_all}
 use Rattle.cells.proofs.Images.{image_made, image_none}
