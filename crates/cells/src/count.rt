@@ -5,7 +5,6 @@ ghost use Rattle.cells.specs.Count.{marks_in, mark_count};
 use crate::layout;
 
 // How many marks are set in a word: the count of ones of its low byte.
-#[tactic(auto, using(crate::proofs::Counts::count_ones, crate::proofs::Counts::marks_at_most), unfolding(crate::specs::Count::marks_in))]
 fn marks_in(word: u64) -> u64
     ensures { result ≡ marks_in word }
 {

@@ -1,10 +1,9 @@
 use Prim.Native.Nat.{ℕ, ◌≤◌, ◌<◌, ◌+◌, ◌-◌}
-use mathlib.Core.Path.{◌≡◌, refl, sym}
+use mathlib.Core.Path.{◌≡◌}
 use mathlib.Core.Bool.{true}
 use lib.Dec.{eqb}
 use lib.ListN.{length, get_or}
-use Rattle.laws.proofs.Below.{all_of, not_all}
-use Rattle.table.specs.File.{ends_in_mark, mark, mark_bytes}
+use Rattle.table.specs.File.{mark, mark_bytes}
 use Rattle.table.proofs.ends_in_mark.Given as goal
 
 abbrev pub invariant-loop-i : goal.invariant-loop-i

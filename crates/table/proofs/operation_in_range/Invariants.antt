@@ -1,8 +1,7 @@
 use Prim.Native.Nat.{ℕ, ◌≤◌, ◌<◌, ◌-◌}
-use mathlib.Core.Path.{◌≡◌, sym, ◌∙◌}
+use mathlib.Core.Path.{◌≡◌}
 use mathlib.Core.Bool.{true}
-use Rattle.laws.proofs.Below.{all_of, not_all}
-use Rattle.table.specs.Entries.{entry_in_range, operation_in_range}
+use Rattle.table.specs.Entries.{entry_in_range}
 use Rattle.table.proofs.operation_in_range.Given as goal
 
 abbrev pub invariant-loop-state : goal.invariant-loop-state

@@ -1,9 +1,7 @@
-use mathlib.Core.Path.{◌≡◌, refl, ap, ◌∙◌}
-use Prim.Native.Nat.{◌*◌, ◌-◌, ◌<◌, ◌≤◌}
-use lib.ListN.{length, take, get_or}
-use lib.Seq.{take_all}
+use mathlib.Core.Path.{◌≡◌}
+use Prim.Native.Nat.{◌*◌, ◌-◌, ◌≤◌}
+use lib.ListN.{length, take}
 use Rattle.cells.specs.Count.{mark_count}
-use Rattle.cells.proofs.Counts.{count_more, marks_in_most}
 use Rattle.cells.proofs.count.count_marks.Given as goal
 
 abbrev pub invariant-loop-i : goal.invariant-loop-i

@@ -1,9 +1,6 @@
-use mathlib.Core.Path.{◌≡◌, refl, ap, ◌∙◌}
-use mathlib.Core.List.{List}
-use Prim.Native.Nat.{ℕ, ◌*◌, ◌-◌, ◌≤◌}
-use lib.ListN.{length, take, set, replicate, length-set}
-use Rattle.laws.proofs.Lists.{filled_more, filled_all}
-use Rattle.cells.proofs.Images.{image_made, image_none}
+use mathlib.Core.Path.{◌≡◌}
+use Prim.Native.Nat.{◌-◌, ◌≤◌}
+use lib.ListN.{length, take, replicate}
 use Rattle.cells.proofs.image.fill_image.Given as goal
 
 abbrev pub invariant-loop-i : goal.invariant-loop-i
