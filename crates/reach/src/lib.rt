@@ -30,7 +30,7 @@ pub struct Reached {
 }
 
 // Meets a state: puts it at the end of the order if it isn't there yet. Answers how many states the order has then.
-#[tactic(auto, using(crate::proofs::Meeting::meet_no_state, crate::proofs::Meeting::meet_known, crate::proofs::Words::some_listed, crate::proofs::Words::keeps_same, crate::proofs::Words::kept_few, crate::proofs::Words::kept_order_long, crate::proofs::Words::kept_number_long, crate::proofs::Words::kept_number, crate::proofs::Words::kept_room, crate::proofs::Words::kept_more))]
+#[tactic(auto, using(crate::proofs::Meeting::meet_no_state, crate::proofs::Meeting::meet_known, crate::proofs::Words::some_listed, crate::proofs::Words::keeps_same, crate::proofs::Words::kept_few, crate::proofs::Words::kept_number_long, crate::proofs::Words::kept_number, crate::proofs::Words::kept_room))]
 fn meet_state(order: &mut [u16], number: &mut [u16], count: u16, state: u16) -> u16
     requires { Kept order.old number.old count }
     ensures { Keeps (meet (take count order.old) state) order.new number.new result }
@@ -47,7 +47,7 @@ fn meet_state(order: &mut [u16], number: &mut [u16], count: u16, state: u16) -> 
 }
 
 // Meets the next states of a state, operations from 0 up.
-#[tactic(auto, using(crate::proofs::Turns::meet_next_zero, crate::proofs::Turns::meet_next_suc, crate::proofs::Turns::next_distinct, crate::proofs::Words::list_kept, crate::proofs::Words::keeps_kept, crate::proofs::Words::keeps_same, crate::proofs::Words::kept_order_long, crate::proofs::Words::kept_number_long))]
+#[tactic(auto, using(crate::proofs::Turns::meet_next_zero, crate::proofs::Words::keeps_same))]
 fn meet_next(
     file: &[u8],
     shape: Shape,
@@ -71,7 +71,7 @@ fn meet_next(
 }
 
 // Meets the start state and gives every state of the order its turn. The arrays are all 0 before.
-#[tactic(auto, using(crate::proofs::Turns::turns_zero, crate::proofs::Turns::turns_suc, crate::proofs::Turns::turn_taken, crate::proofs::Turns::turns_distinct, crate::proofs::Turns::order_past, crate::proofs::Words::order_words_at, crate::proofs::Words::list_kept, crate::proofs::Words::keeps_kept, crate::proofs::Words::keeps_same, crate::proofs::Words::kept_few, crate::proofs::Words::kept_order_long, crate::proofs::Words::kept_number_long))]
+#[tactic(auto, using(crate::proofs::Turns::turns_zero, crate::proofs::Turns::order_past, crate::proofs::Words::keeps_same))]
 fn meet_all(file: &[u8], shape: Shape, order: &mut [u16], number: &mut [u16]) -> u16
     requires { Kept order.old number.old 0 }
     ensures { Keeps (order_of file.now shape) order.new number.new result }
@@ -100,7 +100,7 @@ fn clear(words: &mut [u16])
 
 // The states of a table that can be reached, in arrays of 256 words that may hold anything before. Answers how many they are;
 // arrays of another length are left as they were, and the answer is 0.
-#[tactic(auto, using(crate::proofs::Words::keeps_reached, crate::proofs::Words::cleared_kept, crate::proofs::Words::into_other_order, crate::proofs::Words::into_other_number, crate::proofs::Words::into_both))]
+#[tactic(auto, using(crate::proofs::Words::keeps_reached, crate::proofs::Words::into_other_order, crate::proofs::Words::into_other_number, crate::proofs::Words::into_both))]
 pub fn reach_into(file: &[u8], shape: Shape, order: &mut [u16], number: &mut [u16]) -> u16
     ensures { (order.new ≡ (reached_into file.now shape order.old number.old).order) × (number.new ≡ (reached_into file.now shape order.old number.old).number) × (result ≡ (reached_into file.now shape order.old number.old).count) }
 {
@@ -131,7 +131,7 @@ pub fn reach(file: &[u8], shape: Shape) -> Reached
 }
 
 // Whether an operation moves some state of the table, one that can be reached or not.
-#[tactic(auto, using(laws::proofs::Below::any_of, laws::proofs::Below::not_any))]
+#[tactic(auto, using(laws::proofs::Below::not_any))]
 fn moves_some(file: &[u8], shape: Shape, operation: u16) -> bool
     ensures { result ≡ any_below shape.states (λ state. moves file.now shape state operation) }
 {
@@ -157,7 +157,7 @@ fn moves_known(file: &[u8], shape: Shape, state: u16, operation: u16) -> bool
 }
 
 // Whether an operation moves one of the first states of an order.
-#[tactic(auto, using(laws::proofs::Below::any_of, laws::proofs::Below::not_any))]
+#[tactic(auto, using(laws::proofs::Below::not_any))]
 fn moves_met(file: &[u8], shape: Shape, order: &[u16], count: u16, operation: u16) -> bool
     requires { count ≤ length order.now }
     ensures { result ≡ any_below count (λ place. ltb (get_or order.now place 0) shape.states && moves file.now shape (get_or order.now place 0) operation) }
@@ -175,7 +175,7 @@ fn moves_met(file: &[u8], shape: Shape, order: &[u16], count: u16, operation: u1
 
 // Whether an operation moves some state that can be reached; otherwise it is reading. One that moves no state of the table is
 // reading without a search.
-#[tactic(auto, using(crate::proofs::Turns::order_distinct, crate::proofs::Words::none_kept, crate::proofs::Words::keeps_kept, crate::proofs::Words::kept_few, crate::proofs::Words::kept_order_long, crate::proofs::ChangingWords::changing_by_words, crate::proofs::ChangingWords::unmoved_reading))]
+#[tactic(auto, using(crate::proofs::Words::none_kept, crate::proofs::ChangingWords::unmoved_reading))]
 pub fn is_changing(file: &[u8], shape: Shape, operation: u16) -> bool
     ensures { result ≡ changing file.now shape operation }
 {

@@ -1,7 +1,6 @@
-use mathlib.Core.Path.{◌≡◌, refl}
+use mathlib.Core.Path.{◌≡◌}
 use Prim.Native.Nat.{◌-◌, ◌≤◌}
-use lib.ListN.{length, take, replicate, length-set}
-use Rattle.laws.proofs.Lists.{filled_more, filled_all}
+use lib.ListN.{length, take, replicate}
 use Rattle.reach.proofs.clear.Given as goal
 
 abbrev pub invariant-loop-at : goal.invariant-loop-at

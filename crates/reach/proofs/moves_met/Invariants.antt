@@ -1,9 +1,8 @@
 use Prim.Native.Nat.{ℕ, ◌≤◌, ◌<◌, ◌-◌}
-use mathlib.Core.Path.{◌≡◌, sym, ◌∙◌}
+use mathlib.Core.Path.{◌≡◌}
 use mathlib.Core.Bool.{false, ◌&&◌}
 use lib.Dec.{ltb}
 use lib.ListN.{get_or}
-use Rattle.laws.proofs.Below.{any_of, not_any}
 use Rattle.table.specs.Entries.{moves}
 use Rattle.reach.proofs.moves_met.Given as goal
 

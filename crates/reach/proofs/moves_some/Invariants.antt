@@ -1,7 +1,6 @@
 use Prim.Native.Nat.{ℕ, ◌≤◌, ◌<◌, ◌-◌}
-use mathlib.Core.Path.{◌≡◌, sym, ◌∙◌}
+use mathlib.Core.Path.{◌≡◌}
 use mathlib.Core.Bool.{false}
-use Rattle.laws.proofs.Below.{any_of, not_any}
 use Rattle.table.specs.Entries.{moves}
 use Rattle.reach.proofs.moves_some.Given as goal
 

@@ -1,0 +1,38 @@
+-- The states at the places passed have had their turn.
+use Rattle.std.proofs.Common.{List, ℕ, ◌≡◌, ◌<◌, length, get_or, take, sym, ap, ◌∙◌, add-one, arith}
+use Rattle.reach.specs.Order.{meet_next, turns}
+use Rattle.reach.proofs.Turns.{turns_suc, turn_taken, turns_distinct}
+use Rattle.reach.proofs.Words.{order_words_at, list_kept, keeps_kept, keeps_same, kept_few, kept_order_long}
+use Rattle.reach.proofs.meet_all.Goals as goal
+
+pub bounds-order-place : goal.bounds-order-place
+bounds-order-place c =
+    let kept = keeps_kept c.loop-place.invariant.1 (turns_distinct c.args.file.now c.args.shape c.loop-place.place) in
+    omega (arith, c.loop-place-test.true, kept_few kept, kept_order_long kept)
+
+pub meet_next-count-requires : goal.meet_next-count-requires
+meet_next-count-requires c = keeps_kept c.loop-place.invariant.1 (turns_distinct c.args.file.now c.args.shape c.loop-place.place)
+
+pub loop-place-smaller : goal.loop-place-smaller
+loop-place-smaller c =
+    let kept = keeps_kept c.loop-place.invariant.1 (turns_distinct c.args.file.now c.args.shape c.loop-place.place) in
+    omega (arith, c.loop-place-test.true, kept_few kept)
+
+pub loop-place-preserved : goal.loop-place-preserved
+loop-place-preserved c =
+    let a = c.args in
+    let l = c.loop-place in
+    let list : List ℕ = turns a.file.now a.shape l.place in
+    let keeps = l.invariant.1 in
+    let below : l.place < length list = omega (arith, c.loop-place-test.true, keeps.count_is) in
+    let few = kept_few (keeps_kept keeps (turns_distinct a.file.now a.shape l.place)) in
+    let state : get_or l.order l.place 0 ≡ get_or list l.place 0 =
+    ap (λ (x : List ℕ). get_or x l.place 0) keeps.order_is ∙ order_words_at list l.place below in
+    let turned = turns_suc a.file.now a.shape l.place ∙ turn_taken a.file.now a.shape list l.place below in
+    let met =
+    ap (λ (q : ℕ). meet_next a.file.now a.shape q a.shape.operations list) (sym state)
+    ∙ ap (meet_next a.file.now a.shape (get_or l.order l.place 0) a.shape.operations) (sym (list_kept keeps)) in
+    let after : List ℕ = meet_next a.file.now a.shape (get_or l.order l.place 0) a.shape.operations (take l.count l.order) in (
+      omega (arith, below, few, keeps.count_is),
+      keeps_same {list = after} c.meet_next-count.ensures (rw add-one (turned ∙ met)),
+    )
