@@ -12,7 +12,7 @@ use Rattle.machine.specs.History.{Linearizes}
 use Rattle.machine.proofs.Book.Agreement.{AgreesWithBook, blank_agrees, entries, booked}
 
 -- A book that agrees with the first events of a history es agrees with all of it when it is kept along the rest.
-agrees_along : (b : Object) (q : ℕ) (es first : List Event) {n p : ℕ} {k k' : Book} {fs : List Event}
+agrees_along : (b : Object) (q : ℕ) (es : List Event) {n : ℕ} (first : List Event) {p : ℕ} {k k' : Book} {fs : List Event}
     → Kept b n p k fs k' → es ≡ first ++ fs → p ≡ length first → AgreesWithBook b q es p k → AgreesWithBook b q es (length es) k'
 agrees_along b q es first rest e l g = rw (ap length e ∙ ap length (append-nil first) ∙ sym l) g
 agrees_along b q es first (then {place = p} {e = v} {es = fs} s f) e l g =

@@ -169,7 +169,7 @@ module _ (b : Object) (n : ℕ) where
   begun_formed h k true e = record { phase = tt; priority = k; operation = (h, e, refl) }
   begun_formed h k false e = record { phase = tt; priority = k; operation = (h, e, refl) }
 
-  pub formed_serving : {x : Call} {r : Served} {c : Config} → Safe c → Formed b n c → Serving b n c x r → Formed b n r.config
+  pub formed_serving : {x : Call} {c : Config} {r : Served} → Safe c → Formed b n c → Serving b n c x r → Formed b n r.config
   formed_serving s z (begins {i = i} {o = o} h k e) = task_formed z z.memory i _ h (begun_formed k (z.task i h).priority (b.changing o) refl)
   formed_serving s z (begin_task_lem h) = z
   formed_serving s z (begin_operation h k) = z

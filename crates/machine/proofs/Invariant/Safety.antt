@@ -56,7 +56,7 @@ module _ (b : Object) (n : ℕ) where
         (λ j _. s.each j);
   }
 
-  pub safe_serving : {x : Call} {r : Served} {c : Config} → Safe c → Serving b n c x r → Safe r.config
+  pub safe_serving : {x : Call} {c : Config} {r : Served} → Safe c → Serving b n c x r → Safe r.config
   safe_serving s (begins {i = i} {o = o} h k e) = safe_begun i o s e
   safe_serving s (begin_task_lem h) = s
   safe_serving s (begin_operation h k) = s

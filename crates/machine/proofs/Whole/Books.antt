@@ -36,6 +36,7 @@ module _ {b : Object} {n : ℕ} where
   booked_below (step_idle h p) t o e f = never cc
 
   kept_below : {place : ℕ} {k k' : Book} {es : List Event} → Kept b n place k es k' → {i t o : ℕ} → At es i (record { call = Begin t o; answer = Begun }) → o < b.operations
+  kept_below rest a = elim a [ ]
   kept_below (then l f) here = booked_below l.booking _ _ refl refl
   kept_below (then l f) (later a) = kept_below f a
 
