@@ -62,6 +62,10 @@ filled_more ys i zs own h e idle =
     rw (add-one, e, idle, drop-cons ys i own h)
     (set_at (idle_row i) (get_or ys i own) (drop (suc i) ys) (idle_task i) i (length_idle_row i) ∙ sym (append_snoc (idle_row i) (idle_task i) (drop (suc i) ys)))
 
+-- As many records are filled as there are to fill.
+pub filled_whole : (k i : ℕ) (ys zs : List Task) → zs ≡ filled_to i ys → i ≤ k → k ≤ i → zs ≡ filled_to k ys
+filled_whole k i ys zs e low high = let all : i ≡ k = omega arith in e ∙ ap (λ (j : ℕ). filled_to j ys) all
+
 -- ---- The whole start
 
 -- The cells, the row and the answer at the exit of a start.

@@ -42,6 +42,7 @@ fn idle_count(answer: StartAnswer, tasks: usize) -> usize
 }
 
 // Makes the first `count` records of a row those of idle tasks.
+#[tactic(auto, using(crate::proofs::Starts::filled_none, crate::proofs::Starts::filled_more, crate::proofs::Starts::filled_whole))]
 fn fill_row(row: &mut [Task], count: usize)
     requires { (count ≤ length row.old) × (count ≤ 8) }
     ensures { row.new ≡ idle_row count ++ drop count row.old }
@@ -129,6 +130,7 @@ fn begin_past(file: &[u8], tasks: usize, task: usize, operation: usize) -> Begin
 }
 
 // Begins an operation for a task.
+#[tactic(auto, using(crate::proofs::Calls::begin_past))]
 pub fn begin(file: &[u8], row: &mut [Task], task: usize, operation: usize) -> BeginAnswer
     ensures { record { row = row.exit.now; answer = result } ≡ begin_of file.now row.entry.now task operation }
 {
