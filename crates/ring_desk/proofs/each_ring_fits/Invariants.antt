@@ -1,7 +1,6 @@
 use Prim.Native.Nat.{ℕ, ◌<◌, ◌≤◌, ◌-◌}
-use mathlib.Core.Path.{◌≡◌, sym, ◌∙◌}
+use mathlib.Core.Path.{◌≡◌}
 use mathlib.Core.Bool.{true}
-use Rattle.laws.proofs.Below.{all_of, not_all}
 use Rattle.ring_desk.specs.Rings.{ring_count, length_of, kind_of, ring_fits}
 use Rattle.ring_desk.proofs.each_ring_fits.Given as goal
 

@@ -1,12 +1,8 @@
 use Prim.Native.Nat.{ℕ, ◌*◌, ◌<◌, ◌≤◌, ◌-◌}
-use mathlib.Core.Path.{◌≡◌, refl, sym, ◌∙◌}
+use mathlib.Core.Path.{◌≡◌}
 use mathlib.Core.Bool.{false}
-use mathlib.Core.List.{List}
-use native.Mathlib.Numerals.{add-one}
-use Rattle.laws.proofs.Lowest.{lowest_at, lowest_none}
-use Rattle.ring_desk.specs.Rings.{longest_ring, ring_count, start_of}
+use Rattle.ring_desk.specs.Rings.{longest_ring, start_of}
 use Rattle.ring_desk.specs.Owner.{owns}
-use Rattle.ring_desk.proofs.Ranges.{fits_range}
 use Rattle.ring_desk.proofs.first_owner.Given as goal
 
 abbrev pub invariant-loop-place : goal.invariant-loop-place

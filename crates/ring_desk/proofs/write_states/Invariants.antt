@@ -1,12 +1,7 @@
-use Prim.Native.Nat.{ℕ, ◌+◌, ◌-◌, ◌≤◌}
-use mathlib.Core.Path.{◌≡◌, refl, ap, ◌∙◌}
-use native.Mathlib.Numerals.{add-one}
-use lib.ListN.{length}
-use lib.Seq.{sets, length-sets}
-use Rattle.laws.specs.Joined.{joined}
-use Rattle.laws.proofs.Lists.{sets_then}
-use Rattle.table_writer.specs.Written.{state_bytes, entries_of}
-use Rattle.table_writer.proofs.ReadsBack.{entries_length}
+use Prim.Native.Nat.{◌+◌, ◌-◌, ◌≤◌}
+use mathlib.Core.Path.{◌≡◌}
+use lib.Seq.{sets}
+use Rattle.table_writer.specs.Written.{entries_of}
 use Rattle.ring_desk.specs.Table.{desk_operations, desk_entry}
 use Rattle.ring_desk.proofs.write_states.Given as goal
 
