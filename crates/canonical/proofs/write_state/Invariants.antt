@@ -1,15 +1,9 @@
-use Prim.Native.Nat.{ℕ, ◌-◌, ◌≤◌}
-use mathlib.Core.Path.{◌≡◌, refl, ap, ◌∙◌}
-use native.Mathlib.Numerals.{add-one}
-use lib.ListN.{length}
-use lib.Seq.{sets, length-sets}
-use Rattle.laws.specs.Joined.{joined}
-use Rattle.laws.proofs.Lists.{sets_then}
-use Rattle.table_writer.specs.Written.{entry_bytes_of, state_bytes}
-use Rattle.table_writer.proofs.ReadsBack.{state_length}
+use Prim.Native.Nat.{◌-◌, ◌≤◌}
+use mathlib.Core.Path.{◌≡◌}
+use lib.Seq.{sets}
+use Rattle.table_writer.specs.Written.{state_bytes}
 use Rattle.reach.specs.Order.{order_of}
 use Rattle.canonical.specs.Canonical.{renumbered_entry}
-use Rattle.canonical.proofs.Arrays.{few_operations}
 use Rattle.canonical.proofs.write_state.Given as goal
 
 abbrev pub invariant-loop-operation : goal.invariant-loop-operation

@@ -1,16 +1,9 @@
-use Prim.Native.Nat.{ℕ, ◌-◌, ◌*◌, ◌≤◌}
-use mathlib.Core.Path.{◌≡◌, refl, ap, ◌∙◌}
-use native.Mathlib.Nat.{mul-le-mul_right}
-use native.Mathlib.Numerals.{add-one}
-use lib.ListN.{length}
-use lib.Seq.{sets, length-sets}
-use Rattle.laws.specs.Joined.{joined}
-use Rattle.laws.proofs.Lists.{sets_then}
-use Rattle.table_writer.specs.Written.{state_bytes, entries_of}
-use Rattle.table_writer.proofs.ReadsBack.{entries_length}
+use Prim.Native.Nat.{◌-◌, ◌≤◌}
+use mathlib.Core.Path.{◌≡◌}
+use lib.Seq.{sets}
+use Rattle.table_writer.specs.Written.{entries_of}
 use Rattle.reach.specs.Order.{order_of}
 use Rattle.canonical.specs.Canonical.{renumbered_entry}
-use Rattle.canonical.proofs.Arrays.{few, few_operations}
 use Rattle.canonical.proofs.write_states.Given as goal
 
 abbrev pub invariant-loop-place : goal.invariant-loop-place
