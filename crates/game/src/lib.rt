@@ -50,7 +50,8 @@ fn is_yes(answer: ForceAnswer) -> bool
 }
 
 // The jack console's turn: some operation must lead to a turn of the link that is won.
-#[cycle(our_turn_their_turn)]
+#[cycle(turns)]
+#[tactic(auto, using(crate::proofs::Turns::reached, crate::proofs::Turns::turn_none, crate::proofs::Turns::turn_wins, crate::proofs::Turns::turn_loses))]
 fn our_turn(file: &[u8], shape: Shape, targets: &[u8], left: usize, state: u16) -> ForceAnswer
     ensures { result ≡ turn_of file.now shape targets.now left state }
 {
@@ -73,7 +74,8 @@ fn our_turn(file: &[u8], shape: Shape, targets: &[u8], left: usize, state: u16) 
 }
 
 // The link's turn: every operation must lead to a turn of the jack console that is won.
-#[cycle(our_turn_their_turn)]
+#[cycle(turns)]
+#[tactic(auto, using(crate::proofs::Turns::theirs_target, crate::proofs::Turns::theirs_none, crate::proofs::Turns::theirs_lost, crate::proofs::Turns::theirs_won, crate::proofs::Turns::yes_ours))]
 fn their_turn(file: &[u8], shape: Shape, targets: &[u8], left: usize, state: u16) -> bool
     ensures { result ≡ theirs file.now shape targets.now left state }
 {

@@ -1,10 +1,8 @@
-use mathlib.Core.Path.{◌≡◌, sym}
+use mathlib.Core.Path.{◌≡◌}
 use mathlib.Core.Bool.{true}
 use Prim.Native.Nat.{ℕ, ◌-◌, ◌<◌, ◌≤◌}
 use lib.Dec.{leb}
 use lib.ListN.{length, get_or}
-use Rattle.game.specs.Force.{targets_fit}
-use Rattle.game.proofs.Questions.{byte_unfit, bytes_fit}
 use Rattle.game.proofs.targets_fit.Given as goal
 
 abbrev pub invariant-loop-i : goal.invariant-loop-i
