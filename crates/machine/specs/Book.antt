@@ -47,13 +47,13 @@ pub data Entering (b : Object) : Book → Book → Type 0 where
 -- The rule by which the call at a place is booked with its answer, for n tasks.
 pub data Booking (b : Object) (n place : ℕ) (k : Book) : Call → Answer → Book → Type 0 where
   begun : {t o : ℕ} → t < n → o < b.operations → k.page t ≡ Idle → Booking b n place k (Begin t o) Begun (turned t (Waiting (record { place = place; task = t; operation = o }) 0) k)
-  begin_task_lem : {t o : ℕ} → (t < n → ⊥) → Booking b n place k (Begin t o) (Refused 7) k
+  begin_task : {t o : ℕ} → (t < n → ⊥) → Booking b n place k (Begin t o) (Refused 7) k
   begin_operation : {t o : ℕ} → t < n → (o < b.operations → ⊥) → Booking b n place k (Begin t o) (Refused 8) k
   begin_pending : {t o : ℕ} → t < n → o < b.operations → (k.page t ≡ Idle → ⊥) → Booking b n place k (Begin t o) (Refused 9) k
   running_waiting : {t s : ℕ} {x : Operation} → t < n → k.page t ≡ Waiting x s → Booking b n place k (Step t) Running (turned t (Waiting x (suc s)) k)
   running_done : {t : ℕ} {r : Outcome} {s : ℕ} → t < n → k.page t ≡ Done r s → Booking b n place k (Step t) Running (turned t (Done r (suc s)) k)
   ended : {t : ℕ} {r : Outcome} {s : ℕ} → t < n → k.page t ≡ Done r s → Booking b n place k (Step t) (Ended r (suc s)) (turned t Idle k)
-  step_task_lem : {t : ℕ} → (t < n → ⊥) → Booking b n place k (Step t) (Refused 7) k
+  step_task : {t : ℕ} → (t < n → ⊥) → Booking b n place k (Step t) (Refused 7) k
   step_idle : {t : ℕ} → t < n → k.page t ≡ Idle → Booking b n place k (Step t) (Refused 10) k
 
 -- A legal step of the book: entries of waiting tasks first, then the booking rule.

@@ -6,7 +6,7 @@ use Rattle.machine.specs.Object.{Object}
 use Rattle.machine.specs.Run.{Config, Served, start, run}
 use Rattle.machine.specs.Calls.{Call, Step, Refused, Event}
 use Rattle.machine.specs.History.{Pending, Pends, heard, pending_from, pending}
-use Rattle.machine.proofs.Steps.Calls.{Serving, moves, step_task_lem, step_idle, serving}
+use Rattle.machine.proofs.Steps.Calls.{Serving, moves, step_task, step_idle, serving}
 use Rattle.machine.proofs.Points.Pending.{pending_of, pending_is}
 use Rattle.stepping.specs.Runs.{Store, serve_of, run_of, history_of}
 use Rattle.stepping.specs.Opening.{Opening, object_in}
@@ -26,7 +26,7 @@ pending_more t p (x ∷ es) e = pending_more t (heard t x.call x.answer p) es e
 machine_pends : {b : Object} {n : ℕ} {c : Config} {t : ℕ} {z : Served} → Serving b n c (Step t) z → ((k : ℕ) → z.answer ≡ Refused k → ⊥)
     → pending_of (c.task t) ≡ Pends (c.task t).operation (c.task t).steps
 machine_pends (moves h d v) a = rw d
-machine_pends (step_task_lem h) a = absurd (a 7 refl)
+machine_pends (step_task h) a = absurd (a 7 refl)
 machine_pends (step_idle h d) a = absurd (a 10 refl)
 
 -- In a run too.

@@ -23,7 +23,7 @@ use Rattle.machine.specs.Demand.{Shown, Demand}
 use Rattle.machine.specs.Ending.{EndsChanging}
 use Rattle.machine.specs.Invariant.{content}
 use Rattle.machine.specs.Points.{MidWork, next_access}
-use Rattle.machine.proofs.Steps.Calls.{Serving, begins, begin_task_lem, begin_operation, begin_pending, moves, step_task_lem, step_idle, serving}
+use Rattle.machine.proofs.Steps.Calls.{Serving, begins, begin_task, begin_operation, begin_pending, moves, step_task, step_idle, serving}
 use Rattle.machine.proofs.Points.Emptied.{emptyings}
 use Rattle.machine.proofs.Invariant.Ranges.{formed_run}
 use Rattle.machine.proofs.Points.MidWork.{stays_announced}
@@ -64,11 +64,11 @@ within {j} {k} e low high = let same : j ≡ k = cc in (omega arith, omega arith
 
 refuses : {b : Object} {n : ℕ} {c : Config} {x : Call} {z : Served} → Serving b n c x z → (k : ℕ) → z.answer ≡ Refused k → (7 ≤ k) × (k ≤ 10)
 refuses (begins h k d) number e = never cc
-refuses (begin_task_lem h) number e = within e (omega arith) (omega arith)
+refuses (begin_task h) number e = within e (omega arith) (omega arith)
 refuses (begin_operation h k) number e = within e (omega arith) (omega arith)
 refuses (begin_pending h k d) number e = within e (omega arith) (omega arith)
 refuses {c = c} (moves {i = i} {y = y} h d v) number e = absurd (step_answers (c.task i).steps y number e)
-refuses (step_task_lem h) number e = within e (omega arith) (omega arith)
+refuses (step_task h) number e = within e (omega arith) (omega arith)
 refuses (step_idle h d) number e = within e (omega arith) (omega arith)
 
 -- After an opening.

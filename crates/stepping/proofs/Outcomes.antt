@@ -32,7 +32,7 @@ use Rattle.stepping.specs.Runs.{Store}
 use Rattle.stepping.specs.Encoding.{encode_cells}
 use Rattle.stepping.specs.Opening.{Opening, object_in, shown}
 use Rattle.stepping.specs.Print.{Print}
-use Rattle.stepping.specs.Statement.{Demands, DemandsWithin, EntryUsed, Answered, CarriedFor, in_head, in_announcement_lem, CarriedAlong}
+use Rattle.stepping.specs.Statement.{Demands, DemandsWithin, EntryUsed, Answered, CarriedFor, in_head, in_announcement, CarriedAlong}
 use Rattle.stepping.proofs.Accesses.{cell_at, cell_beyond}
 use Rattle.stepping.proofs.Demands.{machine_run, opens, in_range, encoded_shows, shown_same, encoded_demands}
 
@@ -59,14 +59,14 @@ module _ {file : List ℕ} {n q : ℕ} {s : Store} (o : Opening file n q s) wher
         let m = (machine_run o xs).memory in
         let ranged = (in_range o xs).formed.memory in
         machine.in_head (head_same_value m.head.value _ (sym (head_read_lem file o.shape o.table n o.few m.head ranged.head) ∙ e))
-    held j r moved (in_announcement_lem e) = by (dec_lt j n)
+    held j r moved (in_announcement e) = by (dec_lt j n)
       where
         by : Dec (j < n) → machine.Holds (machine_run o xs).memory j (record { response = r; moved = moved })
         by (yes below) =
             let m = (machine_run o xs).memory in
             let ranged = (in_range o xs).formed.memory in
             let read = announcement_read_lem file o.shape o.table n o.few (m.announcement j) (ranged.announcement j) in
-            machine.in_announcement_lem (content_same_value (m.announcement j).value _ (sym read ∙ ap announcement_of (sym (cell_at n m j below)) ∙ e))
+            machine.in_announcement (content_same_value (m.announcement j).value _ (sym read ∙ ap announcement_of (sym (cell_at n m j below)) ∙ e))
         by (no beyond) = absurd (no_response r moved (ap announcement_of (sym (cell_beyond n (machine_run o xs).memory j beyond)) ∙ e))
 
   encoded_carried : CarriedAlong file o.shape q (encoded_shows o) (book_of (object_in o) n q)

@@ -293,7 +293,7 @@ Answered {file} {q = q} o d =
 -- The cells carry response and moved for task j: cell 0 with j as its holder, or cell j + 1 with kind 2.
 pub data CarriedFor (cells : List ℕ) (j r : ℕ) (moved : Bool) : Type 0 where
   in_head : {p : ℕ} → head_of (get_or cells 0 0) ≡ head.Held p j r moved → CarriedFor cells j r moved
-  in_announcement_lem : announcement_of (get_or cells (j + 1) 0) ≡ content.Response r moved → CarriedFor cells j r moved
+  in_announcement : announcement_of (get_or cells (j + 1) 0) ≡ content.Response r moved → CarriedFor cells j r moved
 
 -- Over what a run shows and the book kept along it: what the cells carry for a task, at any point, is response and moved of the entry
 -- that its open operation used; so that operation stands in the order.

@@ -14,7 +14,7 @@ use Rattle.machine.specs.History.{Pending, Nothing, Pends, pending}
 use Rattle.machine.specs.Invariant.{head_value}
 use Rattle.machine.specs.Memory.{Memory, state_of}
 use Rattle.machine.proofs.Steps.Effect.{Effect}
-use Rattle.machine.proofs.Steps.Calls.{Serving, begins, begin_task_lem, begin_operation, begin_pending, moves, step_task_lem, step_idle, serving}
+use Rattle.machine.proofs.Steps.Calls.{Serving, begins, begin_task, begin_operation, begin_pending, moves, step_task, step_idle, serving}
 use Rattle.machine.proofs.Book.Progress.{Progress, idles, reads, announces, applies, continues, retracts, progress}
 use Rattle.machine.proofs.Points.Pending.{pending_of, pending_is}
 use Rattle.stepping.specs.Runs.{Store}
@@ -31,7 +31,7 @@ use Rattle.window.specs.Console.{is_pending}
 module _ {b : Object} {n : ℕ} {c : Config} {t : ℕ} where
   begin_idle : {o : ℕ} {z : Served} → Serving b n c (Begin t o) z → z.answer ≡ Begun → is_pending (pending_of (c.task t)) ≡ false
   begin_idle (begins h k e) a = rw e refl
-  begin_idle (begin_task_lem h) a = never cc
+  begin_idle (begin_task h) a = never cc
   begin_idle (begin_operation h k) a = never cc
   begin_idle (begin_pending h k d) a = never cc
 
@@ -49,7 +49,7 @@ step_bounded : (b : Object) (n : ℕ) (c : Config) → Formed b n c → ((q o : 
     → (r : Outcome) (j : ℕ) → z.answer ≡ Ended r j → r.response < b.outcomes
 step_bounded b n c formed all (moves {i = i} h d v) r j e =
     ended_bounded b n (progress b c.memory i (c.task i).priority (c.task i).operation v) all (formed.task i h).phase (c.task i).steps r j e
-step_bounded b n c formed all (step_task_lem h) r j e = never cc
+step_bounded b n c formed all (step_task h) r j e = never cc
 step_bounded b n c formed all (step_idle h d) r j e = never cc
 
 -- ---- Runs

@@ -15,7 +15,7 @@ use Rattle.laws.proofs.Places.{at_same, at_bound, at_none, at_extended, at_next,
 use Rattle.machine.specs.Outcome.{Outcome}
 use Rattle.machine.specs.Object.{Object}
 use Rattle.machine.specs.Calls.{Call, Begin, Step, Answer, Begun, Running, Ended, Refused, Event}
-use Rattle.machine.specs.Book.{Operation, Page, Idle, Waiting, Done, Book, blank, turned, entered, Entering, none, enter, Booking, begun, begin_task_lem, begin_operation, begin_pending, running_waiting, running_done, ended, step_task_lem, step_idle}
+use Rattle.machine.specs.Book.{Operation, Page, Idle, Waiting, Done, Book, blank, turned, entered, Entering, none, enter, Booking, begun, begin_task, begin_operation, begin_pending, running_waiting, running_done, ended, step_task, step_idle}
 use Rattle.machine.specs.History.{Begins, Ends, replayed, reached}
 use Rattle.machine.proofs.Book.Replay.{reached_next, replayed_next, replayed_before}
 
@@ -273,7 +273,7 @@ module _ (b : Object) (q : ℕ) (es : List Event) where
     -- The booking of an event keeps the agreement.
     pub booked : {n : ℕ} {c : Call} {a : Answer} {k' : Book} → Booking b n p k c a k' → At es p (record { call = c; answer = a }) → AgreesWithBook b q es (suc p) k'
     booked (begun {t = t} {o = o} _ _ e) v = opening t o v e
-    booked (begin_task_lem _) v = quiet v refl refl k.page g.pages
+    booked (begin_task _) v = quiet v refl refl k.page g.pages
     booked (begin_operation _ _) v = quiet v refl refl k.page g.pages
     booked (begin_pending _ _ _) v = quiet v refl refl k.page g.pages
     booked (running_waiting {t = t} {s = s} {x = x} _ e) v =
@@ -281,5 +281,5 @@ module _ (b : Object) (q : ℕ) (es : List Event) where
     booked (running_done {t = t} {r = r} {s = s} _ e) v =
         quiet v refl refl (update k.page t (Done r (suc s))) (fits_turned t (Done r (suc s)) (rw e at (g.pages t)))
     booked (ended {t = t} {r = r} {s = s} _ e) v = closing t r s (suc s) v e
-    booked (step_task_lem _) v = quiet v refl refl k.page g.pages
+    booked (step_task _) v = quiet v refl refl k.page g.pages
     booked (step_idle _ _) v = quiet v refl refl k.page g.pages

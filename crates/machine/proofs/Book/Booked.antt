@@ -18,11 +18,11 @@ use Rattle.machine.specs.Calls.{Call, Begin, Step, Running}
 use Rattle.machine.specs.Run.{begun as began}
 use Rattle.machine.specs.Invariant.{Safe}
 use Rattle.machine.specs.Form.{Formed}
-use Rattle.machine.specs.Book.{Book, Page, Waiting, Done, turned, Entering, none, Booking, begun, begin_task_lem, begin_operation, begin_pending, running_waiting, running_done, ended, step_task_lem, step_idle, Legal}
+use Rattle.machine.specs.Book.{Book, Page, Waiting, Done, turned, Entering, none, Booking, begun, begin_task, begin_operation, begin_pending, running_waiting, running_done, ended, step_task, step_idle, Legal}
 use Rattle.machine.specs.Keeping.{enter_by, enter_for, counted, booked, keep}
 use Rattle.machine.proofs.Steps.Effect.{Effect, effect}
 use Rattle.machine.proofs.Steps.Successor.{moved, Steps}
-use Rattle.machine.proofs.Steps.Calls.{Serving, begins, moves, serving, begin_task_lem as task_unknown, begin_operation as operation_unknown, begin_pending as still_pending, step_task_lem as no_task, step_idle as no_operation}
+use Rattle.machine.proofs.Steps.Calls.{Serving, begins, moves, serving, begin_task as task_unknown, begin_operation as operation_unknown, begin_pending as still_pending, step_task as no_task, step_idle as no_operation}
 use Rattle.machine.proofs.Book.Related.{Standing, Out, Waits, Answered, by_head, standing, stands_at, Shows, Paged, Related, shows_same, page_by}
 use Rattle.machine.proofs.Book.Entries.{with_cells}
 use Rattle.machine.proofs.Book.BeforeBooking.{Runs, BeforeBooking, entries_legal, before_booking}
@@ -151,11 +151,11 @@ module _ (b : Object) (n place : ℕ) (c : Config) (k : Book) (rel : Related c k
 
     books : {x : Call} {s : Served} → Serving b n c x s → Books b n place x c k s
     books (begins h l e) = books_begun h l e
-    books (task_unknown h) = books_through refl none (begin_task_lem h) rel
+    books (task_unknown h) = books_through refl none (begin_task h) rel
     books (operation_unknown h l) = books_through refl none (begin_operation h l) rel
     books (still_pending {i = i} h l e) = books_through refl none (begin_pending h l (pending_page c k rel i e)) rel
     books (moves h e v) = books_moved h e v
-    books (no_task h) = books_through (enters_beyond h) none (step_task_lem h) rel
+    books (no_task h) = books_through (enters_beyond h) none (step_task h) rel
     books (no_operation {i = i} h e) = books_through (enters_idle h e) none (step_idle h (page_by rel i e)) rel
 
     -- The call x at a place is a legal step of the book, and leaves it related.

@@ -4,7 +4,7 @@ use mathlib.Core.List.{List, [], ◌∷◌, ◌++◌, append-nil, append_assoc}
 use Prim.Native.Nat.{ℕ}
 use Rattle.machine.specs.Object.{Object}
 use Rattle.machine.specs.Calls.{Call, Answer, Event}
-use Rattle.machine.specs.Book.{Operation, Book, Entering, none, enter, Booking, begun, begin_task_lem, begin_operation, begin_pending, running_waiting, running_done, ended, step_task_lem, step_idle, Kept, rest, then}
+use Rattle.machine.specs.Book.{Operation, Book, Entering, none, enter, Booking, begun, begin_task, begin_operation, begin_pending, running_waiting, running_done, ended, step_task, step_idle, Kept, rest, then}
 
 -- One order extends another at its end.
 abbrev pub Extends : List Operation → List Operation → Type 0
@@ -22,13 +22,13 @@ module _ {b : Object} where
   -- The booking rule itself leaves the order.
   pub booking_keeps : {n p : ℕ} {k k' : Book} {c : Call} {a : Answer} → Booking b n p k c a k' → k'.order ≡ k.order
   booking_keeps (begun _ _ _) = refl
-  booking_keeps (begin_task_lem _) = refl
+  booking_keeps (begin_task _) = refl
   booking_keeps (begin_operation _ _) = refl
   booking_keeps (begin_pending _ _ _) = refl
   booking_keeps (running_waiting _ _) = refl
   booking_keeps (running_done _ _) = refl
   booking_keeps (ended _ _) = refl
-  booking_keeps (step_task_lem _) = refl
+  booking_keeps (step_task _) = refl
   booking_keeps (step_idle _ _) = refl
 
   -- The order only grows at its end.

@@ -21,7 +21,7 @@ use Rattle.machine.specs.Form.{HeadValueFormed, ContentFormed, CellFormed, HeadF
 use Rattle.machine.proofs.Steps.Effect.{Effect, Unchanged, Linked, Released, Cleared, Retracted, Applied, LinkedAt, ReleasedAt, HandedOver, Announced, effect, with_head, with_announcement}
 use Rattle.machine.proofs.Steps.Branch.{Branch, stay_idle, read_only, announce, poll_response, poll_waits, load_head, link_free, link_held, link_fails, priority_waits, priority_rests, own_waits, own_response, own_empty, apply, apply_fails, reload_apply, reload_apply_lost, load_helped, link_helped, link_rested, link_helped_fails, validate, validate_fails, hand_over, hand_over_fails, reload_hand_over, reload_hand_over_lost, release, release_fails, reload_release, reload_release_lost, clear, clear_fails, reload_clear, reload_clear_lost, exit_clear, exit_release, exit_link, exit_retract, link_exit, link_exit_fails, clear_exit, clear_exit_fails, release_exit, release_exit_fails, retract}
 use Rattle.machine.proofs.Steps.Successor.{moved, Steps}
-use Rattle.machine.proofs.Steps.Calls.{Serving, begins, begin_task_lem, begin_operation, begin_pending, moves, step_task_lem, step_idle, serving}
+use Rattle.machine.proofs.Steps.Calls.{Serving, begins, begin_task, begin_operation, begin_pending, moves, step_task, step_idle, serving}
 use Rattle.machine.proofs.Invariant.Safety.{safe_start, safe_serve}
 
 -- ---- Cells
@@ -171,11 +171,11 @@ module _ (b : Object) (n : ℕ) where
 
   pub formed_serving : {x : Call} {c : Config} {r : Served} → Safe c → Formed b n c → Serving b n c x r → Formed b n r.config
   formed_serving s z (begins {i = i} {o = o} h k e) = task_formed z z.memory i _ h (begun_formed k (z.task i h).priority (b.changing o) refl)
-  formed_serving s z (begin_task_lem h) = z
+  formed_serving s z (begin_task h) = z
   formed_serving s z (begin_operation h k) = z
   formed_serving s z (begin_pending h k e) = z
   formed_serving s z (moves {i = i} h d v) = formed_moved i h d s z v
-  formed_serving s z (step_task_lem h) = z
+  formed_serving s z (step_task h) = z
   formed_serving s z (step_idle h e) = z
 
   pub formed_serve : (x : Call) (c : Config) → Safe c → Formed b n c → Formed b n (serve b n x c).config

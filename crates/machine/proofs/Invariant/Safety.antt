@@ -13,7 +13,7 @@ use Rattle.machine.specs.Invariant.{TaskSafe, Safe}
 use Rattle.machine.proofs.Steps.Effect.{Effect, effect, Allowed}
 use Rattle.machine.proofs.Steps.Coverage.{free_not_holder}
 use Rattle.machine.proofs.Steps.Successor.{moved, Steps}
-use Rattle.machine.proofs.Steps.Calls.{Serving, begins, begin_task_lem, begin_operation, begin_pending, moves, step_task_lem, step_idle, serving}
+use Rattle.machine.proofs.Steps.Calls.{Serving, begins, begin_task, begin_operation, begin_pending, moves, step_task, step_idle, serving}
 use Rattle.machine.proofs.Invariant.Rely.{relies, holders, no_mark}
 use Rattle.machine.proofs.Invariant.Stable.{stable}
 use Rattle.machine.proofs.Invariant.Guarantee.{allowed, own_safe}
@@ -58,11 +58,11 @@ module _ (b : Object) (n : ℕ) where
 
   pub safe_serving : {x : Call} {c : Config} {r : Served} → Safe c → Serving b n c x r → Safe r.config
   safe_serving s (begins {i = i} {o = o} h k e) = safe_begun i o s e
-  safe_serving s (begin_task_lem h) = s
+  safe_serving s (begin_task h) = s
   safe_serving s (begin_operation h k) = s
   safe_serving s (begin_pending h k e) = s
   safe_serving s (moves {i = i} h e v) = safe_moved i s v
-  safe_serving s (step_task_lem h) = s
+  safe_serving s (step_task h) = s
   safe_serving s (step_idle h e) = s
 
   pub safe_serve : (x : Call) (c : Config) → Safe c → Safe (serve b n x c).config

@@ -27,7 +27,7 @@ use Rattle.machine.proofs.Points.Opened.{pending_open, open_whole}
 -- The cells hold the outcome r for task j: in the head that it holds, or in its announcement.
 pub data Holds (m : Memory) (j : ℕ) (r : Outcome) : Type 0 where
   in_head : {q : ℕ} → head_value m ≡ Held q j r → Holds m j r
-  in_announcement_lem : content m j ≡ Resp r → Holds m j r
+  in_announcement : content m j ≡ Resp r → Holds m j r
 
 -- A task whose announcement has its outcome stands answered with it, and so does the head's holder.
 module _ (j : ℕ) (r : Outcome) where
@@ -64,11 +64,11 @@ module _ (j : ℕ) (r : Outcome) where
 
     stands : Holds c.memory j r → standing (kind (c.task j).phase) (content c.memory j) (head_value c.memory) j ≡ Answered r
     stands (in_head {q = q} e) = rw e (holder_stands (kind (c.task j).phase) (content c.memory j) (c.task j).operation q own (s.safe.holder j q r e))
-    stands (in_announcement_lem e) = content_stands (kind (c.task j).phase) (content c.memory j) (c.task j).operation (head_value c.memory) own e
+    stands (in_announcement e) = content_stands (kind (c.task j).phase) (content c.memory j) (c.task j).operation (head_value c.memory) own e
 
     some : Holds c.memory j r → content c.memory j ≡ Empty → ⊥
     some (in_head {q = q} e) f = agrees_some (content c.memory j) (s.safe.holder j q r e) f
-    some (in_announcement_lem e) f = never cc
+    some (in_announcement e) f = never cc
 
     -- Its page is done with that outcome.
     done : Holds c.memory j r → k.page j ≡ Done r (c.task j).steps

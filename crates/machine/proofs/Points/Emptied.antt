@@ -19,7 +19,7 @@ use Rattle.machine.specs.Invariant.{content, OwnContent, Safe}
 use Rattle.machine.specs.Form.{OperationFormed, Formed}
 use Rattle.machine.specs.Ending.{EndsChanging, Emptyings}
 use Rattle.machine.proofs.Steps.Effect.{Effect, effect}
-use Rattle.machine.proofs.Steps.Calls.{Serving, begins, begin_task_lem, begin_operation, begin_pending, moves, step_task_lem, step_idle, serving}
+use Rattle.machine.proofs.Steps.Calls.{Serving, begins, begin_task, begin_operation, begin_pending, moves, step_task, step_idle, serving}
 use Rattle.machine.proofs.Invariant.Guarantee.{own_safe}
 use Rattle.machine.proofs.Invariant.Safety.{safe_moved}
 use Rattle.machine.proofs.Book.Progress.{announced, Progress, idles, reads, announces, applies, continues, retracts, progress}
@@ -58,10 +58,10 @@ module _ (b : Object) (n : ℕ) (c : Config) (safe : Safe c) (formed : Formed b 
   emptied : {x : Call} {z : Served} → Serving b n c x z → (content c.memory t ≡ Empty → ⊥) → content z.config.memory t ≡ Empty
       → (x ≡ Step t) × ((r : Outcome) × (s : ℕ) × (z.answer ≡ Ended r s))
   emptied (begins h k e) f g = absurd (f g)
-  emptied (begin_task_lem h) f g = absurd (f g)
+  emptied (begin_task h) f g = absurd (f g)
   emptied (begin_operation h k) f g = absurd (f g)
   emptied (begin_pending h k d) f g = absurd (f g)
-  emptied (step_task_lem h) f g = absurd (f g)
+  emptied (step_task h) f g = absurd (f g)
   emptied (step_idle h e) f g = absurd (f g)
   emptied (moves {i = i} {e = e} {y = y} h d v) f g = go (ℕ_discrete i t)
     where

@@ -21,7 +21,7 @@ use Rattle.machine.specs.Invariant.{head_value, content, OwnContent}
 use Rattle.machine.specs.Form.{OperationFormed, Formed}
 use Rattle.machine.proofs.Steps.Effect.{Effect, effect}
 use Rattle.machine.proofs.Steps.Successor.{Steps}
-use Rattle.machine.proofs.Steps.Calls.{Serving, moves, step_task_lem, step_idle, serving}
+use Rattle.machine.proofs.Steps.Calls.{Serving, moves, step_task, step_idle, serving}
 use Rattle.machine.proofs.Invariant.Guarantee.{own_safe}
 use Rattle.machine.proofs.Book.Progress.{announced, Progress, idles, reads, announces, applies, continues, retracts, progress}
 use Rattle.machine.proofs.Points.Pending.{pending_of, pending_is}
@@ -107,7 +107,7 @@ pub record OwnStep (b : Object) (c : Config) (t : ℕ) (s : Served) : Type 0 whe
 
 pub own_step : {b : Object} {n : ℕ} {c : Config} {t : ℕ} {s : Served} → Serving b n c (Step t) s → t < n → off (kind (c.task t).phase) ≡ false → OwnStep b c t s
 own_step (moves {e = e} {y = y} _ _ v) h d = record { change = e; next = y; branch = v; answer = refl; cells = refl }
-own_step (step_task_lem z) h d = absurd (z h)
+own_step (step_task z) h d = absurd (z h)
 own_step (step_idle _ z) h d = clash (ap (λ f. off (kind f)) z) d
 
 -- The record of a task with a pending operation.

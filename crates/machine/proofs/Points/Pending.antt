@@ -13,7 +13,7 @@ use Rattle.machine.specs.Kind.{kind, off}
 use Rattle.machine.specs.Run.{Config, Served, start, first_phase, answer_of, serve, run, history}
 use Rattle.machine.specs.Calls.{Call, Step}
 use Rattle.machine.specs.History.{Pending, Nothing, Pends, longer, heard, pending_from, pending}
-use Rattle.machine.proofs.Steps.Calls.{Serving, begins, begin_task_lem, begin_operation, begin_pending, moves, step_task_lem, step_idle, serving}
+use Rattle.machine.proofs.Steps.Calls.{Serving, begins, begin_task, begin_operation, begin_pending, moves, step_task, step_idle, serving}
 use Rattle.machine.proofs.Book.Progress.{progress, progress_pends}
 
 -- The pending operation in a record, with its count of steps.
@@ -44,12 +44,12 @@ module _ (b : Object) (n : ℕ) where
 
   heard_serving : {c : Config} {x : Call} {s : Served} → Serving b n c x s → (t : ℕ) → heard t x s.answer (pending_of (c.task t)) ≡ pending_of (s.config.task t)
   heard_serving {c} (begins {i = i} {o = o} h k e) t = changed c.task i _ (λ _. Pends o 0) (begun_pends (b.changing o) o (c.task i).priority) t
-  heard_serving (begin_task_lem h) t = refl
+  heard_serving (begin_task h) t = refl
   heard_serving (begin_operation h k) t = refl
   heard_serving (begin_pending h k e) t = refl
   heard_serving {c} (moves {i = i} {y = y} h p v) t =
       heard_step c i y p (progress_pends (progress b c.memory i (c.task i).priority (c.task i).operation v) p) t
-  heard_serving (step_task_lem h) t = refl
+  heard_serving (step_task h) t = refl
   heard_serving (step_idle h e) t = refl
 
   pending_from_lem : (xs : List Call) (c : Config) (t : ℕ) (p : Pending) → p ≡ pending_of (c.task t) → pending_from t p (history b n xs c) ≡ pending_of ((run b n xs c).task t)

@@ -44,11 +44,11 @@ off_idle (Retract v) e = cc
 -- What a call of x leaves and answers, over the configuration c.
 pub data Serving (b : Object) (n : ℕ) (c : Config) : Call → Served → Type 0 where
   begins : {i o : ℕ} → i < n → o < b.operations → (c.task i).phase ≡ Idle → Serving b n c (Begin i o) (begun b i o c)
-  begin_task_lem : {i o : ℕ} → (i < n → ⊥) → Serving b n c (Begin i o) (unserved c 7)
+  begin_task : {i o : ℕ} → (i < n → ⊥) → Serving b n c (Begin i o) (unserved c 7)
   begin_operation : {i o : ℕ} → i < n → (o < b.operations → ⊥) → Serving b n c (Begin i o) (unserved c 8)
   begin_pending : {i o : ℕ} → i < n → o < b.operations → off (kind (c.task i).phase) ≡ false → Serving b n c (Begin i o) (unserved c 9)
   moves : {i : ℕ} {e : Effect} {y : Next} → i < n → off (kind (c.task i).phase) ≡ false → Steps b i c e y → Serving b n c (Step i) (record { config = moved n i c e y; answer = answer_of (c.task i).steps y })
-  step_task_lem : {i : ℕ} → (i < n → ⊥) → Serving b n c (Step i) (unserved c 7)
+  step_task : {i : ℕ} → (i < n → ⊥) → Serving b n c (Step i) (unserved c 7)
   step_idle : {i : ℕ} → i < n → (c.task i).phase ≡ Idle → Serving b n c (Step i) (unserved c 10)
 
 not_below : (i n : ℕ) → ltb i n ≡ false → i < n → ⊥
@@ -69,10 +69,10 @@ module _ (b : Object) (n : ℕ) (c : Config) where
       (λ e. begins (ltb-true i n h) (ltb-true o _ k) (off_idle _ e))
       (begin_pending (ltb-true i n h) (ltb-true o _ k)))
       (λ k. begin_operation (ltb-true i n h) (not_below o _ k)))
-      (λ h. begin_task_lem (not_below i n h))
+      (λ h. begin_task (not_below i n h))
   serving (Step i) =
       choice_by (Serving b n c (Step i)) (ltb i n)
       (λ h. choice_by (Serving b n c (Step i)) (off (kind (c.task i).phase))
       (λ e. step_idle (ltb-true i n h) (off_idle _ e))
       (serving_step i (ltb-true i n h)))
-      (λ h. step_task_lem (not_below i n h))
+      (λ h. step_task (not_below i n h))

@@ -10,7 +10,7 @@ use Rattle.laws.proofs.Clash.{never}
 use Rattle.laws.proofs.Lists.{from_the_end}
 use Rattle.machine.specs.Object.{Object}
 use Rattle.machine.specs.Calls.{Call, Begin, Answer, Begun, Event}
-use Rattle.machine.specs.Book.{Operation, Book, blank, Booking, begun, begin_task_lem, begin_operation, begin_pending, running_waiting, running_done, ended, step_task_lem, step_idle, Legal, Kept, rest, then}
+use Rattle.machine.specs.Book.{Operation, Book, blank, Booking, begun, begin_task, begin_operation, begin_pending, running_waiting, running_done, ended, step_task, step_idle, Legal, Kept, rest, then}
 use Rattle.machine.specs.History.{reached}
 use Rattle.machine.specs.Demand.{Shown, Demand}
 use Rattle.machine.proofs.Book.Linearization.{kept_agrees}
@@ -26,13 +26,13 @@ module _ {b : Object} {n : ℕ} where
   -- A begin that is booked as accepted names an operation of the object.
   booked_below : {place : ℕ} {k k' : Book} {c : Call} {a : Answer} → Booking b n place k c a k' → (t o : ℕ) → c ≡ Begin t o → a ≡ Begun → o < b.operations
   booked_below (begun {o = o'} h l p) t o e f = let same : o' ≡ o = cc e in rw (← same) l
-  booked_below (begin_task_lem h) t o e f = never cc
+  booked_below (begin_task h) t o e f = never cc
   booked_below (begin_operation h l) t o e f = never cc
   booked_below (begin_pending h l p) t o e f = never cc
   booked_below (running_waiting h p) t o e f = never cc
   booked_below (running_done h p) t o e f = never cc
   booked_below (ended h p) t o e f = never cc
-  booked_below (step_task_lem h) t o e f = never cc
+  booked_below (step_task h) t o e f = never cc
   booked_below (step_idle h p) t o e f = never cc
 
   kept_below : {place : ℕ} {k k' : Book} {es : List Event} → Kept b n place k es k' → {i t o : ℕ} → At es i (record { call = Begin t o; answer = Begun }) → o < b.operations

@@ -19,7 +19,7 @@ use Rattle.machine.specs.Form.{Formed}
 use Rattle.machine.specs.Potential.{bound, potential, Bounded}
 use Rattle.machine.proofs.Steps.Effect.{Effect}
 use Rattle.machine.proofs.Steps.Successor.{moved, Steps, steps}
-use Rattle.machine.proofs.Steps.Calls.{Serving, begins, begin_task_lem, begin_operation, begin_pending, moves, step_task_lem, step_idle, serving}
+use Rattle.machine.proofs.Steps.Calls.{Serving, begins, begin_task, begin_operation, begin_pending, moves, step_task, step_idle, serving}
 use Rattle.machine.proofs.Invariant.Safety.{safe_start, safe_serve, safe_run}
 use Rattle.machine.proofs.Invariant.Ranges.{formed_start, formed_serve, formed_run}
 use Rattle.machine.proofs.Potential.Falling.{potential_other, potential_own}
@@ -86,11 +86,11 @@ module _ (b : Object) (n : ℕ) {c : Config} (safe : Safe c) (formed : Formed b 
 
     bounded_serving : {x : Call} {r : Served} → Serving b n c x r → Bounded n r.config
     bounded_serving (begins {i = i} {o = o} h k e) = bounded_begun i o h e
-    bounded_serving (begin_task_lem h) = bounded
+    bounded_serving (begin_task h) = bounded
     bounded_serving (begin_operation h k) = bounded
     bounded_serving (begin_pending h k e) = bounded
     bounded_serving (moves {i = i} h d v) = bounded_moved i h d v
-    bounded_serving (step_task_lem h) = bounded
+    bounded_serving (step_task h) = bounded
     bounded_serving (step_idle h e) = bounded
 
 -- ---- Lists of calls
