@@ -8,7 +8,7 @@ use mir.Syntax.{Fn, named, w64}
 use mir.Val.{Val, vint}
 use base.Logic.{SProp, ent, sep, emp, id⊢, via, comm∗, mono_l, mono_r, emp∗}
 use base.Fml.{Lft, flft, fres}
-use prog.Routine.{Name, Env}
+use prog.Routine.{Callee, Env}
 use prog.Model.{Model}
 use prog.Wp.{Calls, Loops, Tables, WpFn, Closed}
 use types.Logic.{Logic, sem}
@@ -17,7 +17,7 @@ use contract.Monad.{fact}
 use contract.Running.{Running, tables, tables_of}
 use types.Kit.{Item, ‵, raw, ◌⊛◌, some, given, later, ⋆, push, pop, ⊢++, Sq, Seq, Step, ◌$◌, prop, Goal, Soaks, cut, use0, use1, await, pick, learn, split, fsplit, move, drop, qed, ◌∵◌, !, done}
 use sound.WpLaws.{FmC, fm_of, WpFn-mono}
-use denote.RattleType.{RattleType, Denots, Valss, owns, flat}
+use denote.RattleType.{RattleType, RowLaws, Denots, Valss, owns, flat}
 use denote.Laws.{Ises, Are}
 use denote.Steps.{heard}
 use denote.Ref.{Bor, MutBor}
@@ -42,19 +42,19 @@ module _ {M : Type 1} {𝓤 : Ura M} (𝓛 : Logic 𝓤) where
 
   abbrev pub owns_of : (Ts : List RattleType) → Denots Ts → Valss Ts → List (Item 𝓤)
   owns_of [] a vss = []
-  owns_of (T ∷ Ts) a vss = ‵ (T.own a.0 vss.0) ∷ owns_of Ts a.1 vss.1
+  owns_of (T ∷ Ts) a vss = ‵ (T.own_val a.0 vss.0) ∷ owns_of Ts a.1 vss.1
 
   owns_apart : (Ts : List RattleType) (a : Denots Ts) (vss : Valss Ts) → ent 𝓤 (sem 𝓛 (owns Ts a vss)) (⋆ 𝓛 (owns_of Ts a vss))
   owns_apart [] a vss = id⊢ 𝓤 (emp 𝓤)
   owns_apart (T ∷ Ts) a vss =
-      via 𝓤 (sep 𝓤 (sem 𝓛 (T.own a.0 vss.0)) (⋆ 𝓛 (owns_of Ts a.1 vss.1))) (mono_r 𝓤 (sem 𝓛 (T.own a.0 vss.0)) (owns_apart Ts a.1 vss.1))
-      (push 𝓛 (‵ (T.own a.0 vss.0)) (owns_of Ts a.1 vss.1))
+      via 𝓤 (sep 𝓤 (sem 𝓛 (T.own_val a.0 vss.0)) (⋆ 𝓛 (owns_of Ts a.1 vss.1))) (mono_r 𝓤 (sem 𝓛 (T.own_val a.0 vss.0)) (owns_apart Ts a.1 vss.1))
+      (push 𝓛 (‵ (T.own_val a.0 vss.0)) (owns_of Ts a.1 vss.1))
 
   owns_together : (Ts : List RattleType) (a : Denots Ts) (vss : Valss Ts) → ent 𝓤 (⋆ 𝓛 (owns_of Ts a vss)) (sem 𝓛 (owns Ts a vss))
   owns_together [] a vss = id⊢ 𝓤 (emp 𝓤)
   owns_together (T ∷ Ts) a vss =
-      via 𝓤 (sep 𝓤 (sem 𝓛 (T.own a.0 vss.0)) (⋆ 𝓛 (owns_of Ts a.1 vss.1))) (pop 𝓛 (‵ (T.own a.0 vss.0)) (owns_of Ts a.1 vss.1))
-      (mono_r 𝓤 (sem 𝓛 (T.own a.0 vss.0)) (owns_together Ts a.1 vss.1))
+      via 𝓤 (sep 𝓤 (sem 𝓛 (T.own_val a.0 vss.0)) (⋆ 𝓛 (owns_of Ts a.1 vss.1))) (pop 𝓛 (‵ (T.own_val a.0 vss.0)) (owns_of Ts a.1 vss.1))
+      (mono_r 𝓤 (sem 𝓛 (T.own_val a.0 vss.0)) (owns_together Ts a.1 vss.1))
 
   -- The tokens of all lifetimes, as one entry, and what the parameters own.
   abbrev pub found : (S : Signature) (κs : Lfts S.lifetimes) → Shares S.lifetimes → Args S κs → Vals S κs → List (Item 𝓤)
@@ -116,8 +116,8 @@ module _ {M : Type 1} {𝓤 : Ura M} (𝓛 : Logic 𝓤) where
 
 module _ {M : Type 1} {𝓤 : Ura M} (𝓛 : Logic 𝓤) {K : Type 0} {Γ : List (Item 𝓤)} {G : Goal 𝓤 𝓛.H} where
   -- A shared slice can be had twice: to be passed on, and to be kept.
-  pub twice : (j : ℕ) (κ : Lft) (R : RattleType) (x : Bor (List R.Denot)) → Step K 𝓛 (‵ ((ShrSlice (named j) κ R).own_val x (shr_slice_vals x)) ∷ ‵ ((ShrSlice (named j) κ R).own_val x (shr_slice_vals x)) ∷ Γ) G (‵ ((ShrSlice (named j) κ R).own_val x (shr_slice_vals x)) ∷ Γ) G
-  twice j κ R x = cut (F ∷ []) (F ∷ F ∷ []) Γ ((shr_slice_copy 𝓛 (named j) κ R).twice x (shr_slice_vals x))
+  pub twice : (j : ℕ) (κ : Lft) (R : RattleType) → RowLaws R → (x : Bor (List R.Denot)) → Step K 𝓛 (‵ ((ShrSlice (named j) κ R).own_val x (shr_slice_vals x)) ∷ ‵ ((ShrSlice (named j) κ R).own_val x (shr_slice_vals x)) ∷ Γ) G (‵ ((ShrSlice (named j) κ R).own_val x (shr_slice_vals x)) ∷ Γ) G
+  twice j κ R laws x = cut (F ∷ []) (F ∷ F ∷ []) Γ ((shr_slice_copy 𝓛 (named j) κ R laws).twice x (shr_slice_vals x))
     where
       F : Item 𝓤
       F = ‵ ((ShrSlice (named j) κ R).own_val x (shr_slice_vals x))
@@ -157,8 +157,8 @@ module _ {M : Type 1} {𝓤 : Ura M} (𝓛 : Logic 𝓤) {n : ℕ} (κs : Lfts n
   lasts_back : {K : Type 0} {G : Goal 𝓤 H} (ss : List (Slot n)) (cs : AllCome ss) (a : Denots (types_at ss κs)) (ws : Fins κs ss (keeps_of ss) a) (Γ : List (Item 𝓤)) → K
       → (Known ss cs a ws → Seq K 𝓛 (back_of ss cs a ws Γ) G) → Seq K 𝓛 (‵ (lasts_of κs ss (keeps_of ss) a ws) ∷ Γ) G
   lasts_back [] cs a ws Γ t k = drop t $ k tt
-  lasts_back {W} (s ∷ ss) cs a ws Γ t k =
-      fsplit t $ use1 W (given (cs.0.known κs a.0 ws.0) (‵ (cs.0.back κs a.0 ws.0))) (cs.0.opens 𝓛 W κs a.0 ws.0) $ learn t (λ e.
+  lasts_back (s ∷ ss) cs a ws Γ t k =
+      fsplit t $ use1 𝓛 (given (cs.0.known κs a.0 ws.0) (‵ (cs.0.back κs a.0 ws.0))) (cs.0.opens 𝓛 κs a.0 ws.0) $ learn t (λ e.
       move t (1 ∷ []) $ lasts_back ss cs.1 a.1 ws.1 (‵ (cs.0.back κs a.0 ws.0) ∷ Γ) t (λ es. k (e, es)))
 
 module _ (S : Signature) where
@@ -232,7 +232,7 @@ module _ (S : Signature) (ps : Handleds S.params) {M : Type 1} {𝓤 : Ura M} (�
       walk_Meets 𝓛 (ended_of S) (stays_of S.params ps) (goes_of 𝓛 S.params ps) c (WpFn 𝓤 H 𝓣.C 𝓣.Λ f) (WpFn-mono 𝓤 H 𝓛.laws 𝓣 f)
       (walked 𝓛 (ended_of S) (stays_of S.params ps) c (WpFn 𝓤 H 𝓣.C 𝓣.Λ f) (spells_of S.params ps) (tells_of S.params ps) walk)
 
-module _ {M : Type 1} {𝓤 : Ura M} (𝓛 : Logic 𝓤) (𝓜 : Model 𝓤 𝓛.H) (𝓡 : Running 𝓤 𝓛.H 𝓜) (S : Signature) (ps : Handleds S.params) (c : Clauses 𝓤 (ended_of S)) (γ : Env) (k : Name) (f : Fn) where
+module _ {M : Type 1} {𝓤 : Ura M} (𝓛 : Logic 𝓤) (𝓜 : Model 𝓤 𝓛.H) (𝓡 : Running 𝓤 𝓛.H 𝓜) (S : Signature) (ps : Handleds S.params) (c : Clauses 𝓤 (ended_of S)) (γ : Env) (k : Callee) (f : Fn) where
   open 𝓛 use {H}
 
   pub meets_by_walk : Closed 𝓤 H (tables 𝓤 H 𝓜 𝓡 γ).C (tables 𝓤 H 𝓜 𝓡 γ).Λ k f

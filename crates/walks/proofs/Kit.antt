@@ -5,7 +5,7 @@ pub use Prim.Native.Nat.{ℕ, ◌<◌, ◌≤◌, ◌^◌, ◌*◌, ◌+◌, ◌
 pub use mathlib.Core.List.{[], ◌∷◌, List, ◌++◌}
 pub use lib.ListN.{length, get_or, set, length-set, take, length-append, length-drop, drop as dropN}
 pub use seplogic.Ra.Ura.{Ura}
-pub use seplogic.Ra.TreeShare.{full_share}
+pub use base.Fraction.{full_share}
 pub use mir.Syntax.{named, erased, mut, w64, ty_int, ty_ref, ty_ptr, ty_bool}
 pub use mir.Val.{Val, vint, vptr, vbool, vunit, Fits}
 pub use base.Logic.{SProp, ent, emp, via, fst∗, id⊢}
@@ -16,8 +16,8 @@ pub use prog.Wp.{Heap, Calls, Loops, WpFn, Tables}
 pub use ghost.Atoms.{Atoms}
 pub use contract.Monad.{Fun, fact_i}
 pub use contract.Lifetimes.{Lfts, Shares}
-pub use contract.Running.{given_of, tables}
-pub use types.Kit.{Given, ‵, raw, ◌⊛◌, some, later, given, ◌$◌, ◌∵◌, !, by, move, keep, drop, use0, use1, use2, use3, split, pick, learn, fsplit, fjoin, fjoin3, feq_i, await, rewrite, fsplit3}
+pub use contract.Running.{tables}
+pub use types.Kit.{‵, raw, ◌⊛◌, some, later, given, ◌$◌, ◌∵◌, !, by, move, keep, drop, use0, use1, use2, use3, split, pick, learn, fsplit, fjoin, fjoin3, feq_i, await, rewrite, fsplit3}
 pub use types.Tokens.{lft_new, lft_end}
 pub use types.Run.{look, look_raw, init, store, store_raw, stop, hop, fld, from, load, bin, lit, addr, of_opd, and_then, no_more, assigns, land, first, branches, skips, returns, returns_within, enter, alloc1, alloc0, params1, pass1, pass0}
 pub use types.Part.{agg, whole, sub, look_in}

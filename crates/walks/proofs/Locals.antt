@@ -5,7 +5,7 @@ use mathlib.Core.Bool.{Bool, true, false}
 use mathlib.Core.List.{[], ◌∷◌, List}
 use Prim.Native.Nat.{ℕ, zero, suc, ◌+◌, ◌-◌}
 use seplogic.Ra.Ura.{Ura}
-use seplogic.Ra.TreeShare.{full_share}
+use base.Fraction.{full_share}
 use lib.Dec.{T}
 use mathlib.Core.Option.{some}
 use mir.Syntax.{Ty, Tys, Sym, ty_int, ty_struct, w64, place, copy, field, deref, addr_of, aggregate, Body, seq, assign}
@@ -14,7 +14,7 @@ use mir.Fields.{get_v, set_v}
 use prog.Memory.{field_of, field_at}
 use denote.Slice.{slice_ty, slice_val}
 use types.Part.{Part, agg, whole, sub, look_in}
-use base.Fml.{Fml, Share, ftrue, ffalse, feq, flt, fsep, fand, for, fwand, fex, fall, fupd, fat, froom, fdies, flft, fdead, fobs, fauth, fres, fbor, fobor, flent, fshr_bor}
+use base.Fml.{Fml, Share, ftrue, ffalse, feq, flt, fsep, fand, for, fwand, fex, fall, fupd, fat, froom, fdies, flft, fdead, fobs, fauth, fres, fbor, fobor, flent, fshr_bor, fhide, fleft, fown, finv, fnamed, ftok, fkid, fme, fsent}
 use base.Logic.{SProp}
 use prog.Wp.{Env, Calls, Loops, Wp, spot_of, at_return}
 use types.Logic.{Logic}
@@ -95,6 +95,15 @@ in_cell (fbor κ F) = other
 in_cell (fobor κ q F) = other
 in_cell (flent κ F) = other
 in_cell (fshr_bor κ F) = other
+in_cell (fhide F) = other
+in_cell (fleft q τ τs b o) = other
+in_cell (fown R γ x) = other
+in_cell (finv F) = other
+in_cell (fnamed n F) = other
+in_cell (ftok m) = other
+in_cell (fkid h a) = other
+in_cell (fme t) = other
+in_cell (fsent x) = other
 
 abbrev content_of : {M : Type 1} {𝓤 : Ura M} → Item 𝓤 → Content
 content_of (‵ F) = in_cell F

@@ -8,10 +8,10 @@ use lib.ListN.{length}
 use mir.Syntax.{w64}
 use mir.Val.{Val}
 use base.Logic.{ent, emp, guard, guard_i}
-use base.Fml.{Fml, ftrue, fsep, feq, fres}
+use base.Fml.{Fml, ftrue, fres}
 use types.Logic.{Logic, sem}
 use contract.Lifetimes.{Lfts, Within}
-use types.Kit.{‵, ◌$◌, ◌∵◌, !, qed, move, fsplit, feq_l, check, done}
+use types.Kit.{‵, ◌$◌, ◌∵◌, !, qed, move, drop, fsplit, feq_l, check, done}
 use denote.RattleType.{RattleType}
 use denote.Laws.{Is, Ises, Tells, Spells, Tellss, valss}
 use denote.Plain.{uint_vals, uint_Tells}
@@ -49,7 +49,9 @@ module _ {n : ℕ} where
   list_back j ok R = record {
     back = λ κs x w. finally R x.ghost_name w;
     known = λ κs x w. length w ≡ length x.now;
-    opens = λ 𝓛 κs x w. qed 𝓛 (‵ (fsep (finally R x.ghost_name w) (feq ℕ (length w) (length x.now))) ∷ []) ∵ fsplit ! $ move ! (1 ∷ []) $ feq_l ! (λ e. check ! e $ done !);
+    opens = λ 𝓛 κs x w.
+        qed 𝓛 (‵ (left (((mut_slice_of {n = n} (j ∷ []) ok (plain (λ _. R))).row κs).exit yes) x w) ∷ []) ∵ fsplit ! $ move ! (1 ∷ []) $ drop ! $
+        fsplit ! $ move ! (1 ∷ []) $ feq_l ! (λ e. check ! e $ done !);
   }
 
   -- The last value of a `&mut T`.
@@ -57,7 +59,8 @@ module _ {n : ℕ} where
   value_back j ok R = record {
     back = λ κs x w. fres x.ghost_name (R.coded.code w);
     known = λ κs x w. Unit {0};
-    opens = λ {𝓤 = 𝓤} 𝓛 κs x w. guard_i 𝓤 (Unit {0}) (sem 𝓛 (fres x.ghost_name (R.coded.code w))) tt;
+    opens = λ 𝓛 κs x w.
+        qed 𝓛 (‵ (left (((mut_ref_to {n = n} (j ∷ []) ok (plain (λ _. R))).row κs).exit yes) x w) ∷ []) ∵ fsplit ! $ move ! (1 ∷ []) $ drop ! $ check ! tt $ done !;
   }
 
   abbrev pub AllCome : List (Slot n) → Type 2
