@@ -4,7 +4,7 @@ use mathlib.Core.List.{[], ◌∷◌, List, ◌++◌}
 use Prim.Native.Nat.{ℕ, zero, suc, ◌+◌}
 use lib.ListN.{length, take, drop as dropN}
 use seplogic.Ra.Ura.{Ura}
-use seplogic.Ra.TreeShare.{full_share}
+use base.Fraction.{full_share}
 use mir.Syntax.{ty_array}
 use mir.Val.{Val}
 use base.Logic.{ent, sep}

@@ -61,7 +61,7 @@ fn after_step(row: [Task; 9], answer: StepAnswer) -> StepFirst
 
 // Starts a run for a number of tasks, with the first of the records.
 pub fn start_first(file: &[u8], cells: &mut [u64], row: [Task; 9], tasks: usize) -> StartFirst
-    ensures { record { cells = cells.exit.now; row = result.row; answer = result.answer } ≡ start_first file.now cells.entry.now row tasks }
+    ensures { record { cells = cells.new; row = result.row; answer = result.answer } ≡ start_first file.now cells.old row tasks }
 {
     let count = first_count(tasks);
     let mut held = row;
@@ -93,7 +93,7 @@ pub fn step_first(
     tasks: usize,
     task: usize,
 ) -> StepFirst
-    ensures { record { cells = cells.exit.now; row = result.row; answer = result.answer } ≡ step_first file.now cells.entry.now row tasks task }
+    ensures { record { cells = cells.new; row = result.row; answer = result.answer } ≡ step_first file.now cells.old row tasks task }
 {
     let count = first_count(tasks);
     let mut held = row;

@@ -56,7 +56,7 @@ fn fill_row(row: &mut [Task], count: usize)
 
 // Starts a run: fills the cells with the image of the start state, and every record with an idle task.
 pub fn start(file: &[u8], cells: &mut [u64], row: &mut [Task]) -> StartAnswer
-    ensures { record { cells = cells.exit.now; row = row.new; answer = result } ≡ start_of file.now cells.entry.now row.old }
+    ensures { record { cells = cells.new; row = row.new; answer = result } ≡ start_of file.now cells.old row.old }
 {
     let tasks = row.len();
     let answer = start_cells(file, cells, tasks);
@@ -101,7 +101,7 @@ pub fn step_record(
     task: usize,
     own: &mut Task,
 ) -> StepAnswer
-    ensures { record { cells = cells.exit.now; task = own.new; answer = result } ≡ step_task file.now cells.entry.now tasks task own.old }
+    ensures { record { cells = cells.new; task = own.new; answer = result } ≡ step_task file.now cells.old tasks task own.old }
 {
     let stepped = call::step_task(file, cells, tasks, task, *own);
     *own = stepped.task;
@@ -111,7 +111,7 @@ pub fn step_record(
 // Begins an operation for the task at a place of the row: its record is taken out, lent and put back.
 fn begin_in(file: &[u8], row: &mut [Task], index: usize, operation: usize) -> BeginAnswer
     requires { index < length row.old }
-    ensures { record { row = row.exit.now; answer = result } ≡ begin_of file.now row.entry.now index operation }
+    ensures { record { row = row.new; answer = result } ≡ begin_of file.now row.old index operation }
 {
     let tasks = row.len();
     let mut own = row[index];
@@ -132,7 +132,7 @@ fn begin_past(file: &[u8], tasks: usize, task: usize, operation: usize) -> Begin
 // Begins an operation for a task.
 #[tactic(auto, using(crate::proofs::Calls::begin_past))]
 pub fn begin(file: &[u8], row: &mut [Task], task: usize, operation: usize) -> BeginAnswer
-    ensures { record { row = row.exit.now; answer = result } ≡ begin_of file.now row.entry.now task operation }
+    ensures { record { row = row.new; answer = result } ≡ begin_of file.now row.old task operation }
 {
     let tasks = row.len();
     if tasks <= task {
@@ -144,7 +144,7 @@ pub fn begin(file: &[u8], row: &mut [Task], task: usize, operation: usize) -> Be
 // Makes one step for the task at a place of the row: its record is taken out, lent and put back.
 fn step_in(file: &[u8], cells: &mut [u64], row: &mut [Task], index: usize) -> StepAnswer
     requires { index < length row.old }
-    ensures { record { cells = cells.exit.now; row = row.new; answer = result } ≡ step_of file.now cells.entry.now row.old index }
+    ensures { record { cells = cells.new; row = row.new; answer = result } ≡ step_of file.now cells.old row.old index }
 {
     let tasks = row.len();
     let mut own = row[index];
@@ -164,7 +164,7 @@ fn step_past(file: &[u8], cells: &mut [u64], tasks: usize, task: usize) -> StepA
 
 // Makes one step for a task.
 pub fn step(file: &[u8], cells: &mut [u64], row: &mut [Task], task: usize) -> StepAnswer
-    ensures { record { cells = cells.exit.now; row = row.new; answer = result } ≡ step_of file.now cells.entry.now row.old task }
+    ensures { record { cells = cells.new; row = row.new; answer = result } ≡ step_of file.now cells.old row.old task }
 {
     let tasks = row.len();
     if tasks <= task {

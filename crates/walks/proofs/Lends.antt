@@ -23,9 +23,9 @@ use denote.Index.{opens_slice, closes_slice}
 use denote.Shadow.{pure_i}
 
 module _ {M : Type 1} {𝓤 : Ura M} (𝓛 : Logic 𝓤) (R : RattleType) where
-  -- What the lender keeps meanwhile: the elements, lent for κ', and its own borrow, open.
   open 𝓛 use {H, A}
 
+  -- What the lender keeps meanwhile: the elements, lent for κ', and its own borrow, open.
   abbrev pub Kept : Lft → Share → Lft → MutBor (List R.Denot) → Fml
   Kept κ q κ' x =
       fsep (flent κ' ((arr_parts (shares R) (length x.now)).part full_share x.now x.ref_ptr.0 x.ref_ptr.1))

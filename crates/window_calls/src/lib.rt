@@ -198,7 +198,7 @@ fn call_by_window(
     operation: usize,
 ) -> WindowAnswer
     requires { 8 * task + 7 < length windows.old }
-    ensures { record { cells = cells.exit.now; row = row.new; windows = windows.new; answer = result } ≡ called_of file.now cells.entry.now row.old windows.old task call operation }
+    ensures { record { cells = cells.new; row = row.new; windows = windows.new; answer = result } ≡ called_of file.now cells.old row.old windows.old task call operation }
 {
     if call == 1 {
         return begin_by_window(file, row, windows, task, operation);
@@ -217,7 +217,7 @@ fn serve_asked(
     operation: usize,
 ) -> WindowAnswer
     requires { (call ≡ (work_of (asked_of windows.old (length row.old) task)).call) × (operation ≡ (work_of (asked_of windows.old (length row.old) task)).operation) }
-    ensures { record { cells = cells.exit.now; row = row.new; windows = windows.new; answer = result } ≡ window_of file.now cells.entry.now row.old windows.old task }
+    ensures { record { cells = cells.new; row = row.new; windows = windows.new; answer = result } ≡ window_of file.now cells.old row.old windows.old task }
 {
     if call == 0 {
         let tasks = row.len();
@@ -235,7 +235,7 @@ pub fn serve_window(
     windows: &mut [u8],
     task: usize,
 ) -> WindowAnswer
-    ensures { record { cells = cells.exit.now; row = row.new; windows = windows.new; answer = result } ≡ window_of file.now cells.entry.now row.old windows.old task }
+    ensures { record { cells = cells.new; row = row.new; windows = windows.new; answer = result } ≡ window_of file.now cells.old row.old windows.old task }
 {
     let tasks = row.len();
     let asked = work_of_call(windows, tasks, task);
