@@ -1,6 +1,6 @@
 -- A line's first field ends at its first space; what stands after that space are the other fields.
 use mathlib.Core.Path.{◌≡◌, refl, ap, sym, ◌∙◌}
-use mathlib.Core.Bool.{Bool, true, false, and-eq-true_iff}
+use mathlib.Core.Bool.{Bool, true, false, not, and-eq-true_iff}
 use mathlib.Core.List.{List, [], ◌∷◌}
 use Prim.Native.Nat.{ℕ, suc, ◌+◌, ◌<◌, ◌≤◌}
 use native.Mathlib.Numerals.{add-one}
@@ -9,15 +9,45 @@ use borrow.Author.Tests.{leb-true, ltb-true, ltb-false}
 use lib.Dec.{leb, ltb, eqb}
 use lib.ListN.{length, take, drop, get_or}
 use lib.Seq.{length-take-le, get_or-take}
-use Rattle.bytes.specs.Bytes.{index_of, index_after}
-use Rattle.bench_lines.specs.Command.{Fields, last, more, space, lengthened, fields_of, decimal_of, digits_of, zero_digit, nine_digit, is_digit, letter_of, with_one, with_two, after_number, after_letter, alone, command_in, command_of}
+use Rattle.std.specs.declared.option.Option.{Option}
+use Rattle.std.specs.Option.{unwrap_or}
+use Rattle.std.specs.List.{position, position_or_len}
+use Rattle.std.proofs.lemmas.List.Sums.{prefix_len-le-length}
+use Rattle.bench_lines.specs.Command.{index_of, Fields, last, more, space, lengthened, fields_of, decimal_of, digits_of, zero_digit, nine_digit, is_digit, letter_of, with_one, with_two, after_number, after_letter, alone, command_in, command_of}
 use Rattle.bench_lines.specs.declared.command.Number.{Number}
 use Rattle.bench_lines.specs.declared.command.Number.TheVariants.{Of, Nothing}
 use Rattle.bench_lines.specs.declared.command.Command.TheVariants.{Unknown}
 
+-- Where a byte first stands, in the library's words.
+stands_first : (c : ℕ) (line : List ℕ) → index_of c line ≡ position_or_len (λ (b : ℕ). eqb b c) line
+unfolding index_of
+stands_first c [] = refl
+stands_first c (b ∷ line) = at (eqb b c) refl (stands_first c line)
+  where
+    at : (t : Bool) → eqb b c ≡ t → index_of c line ≡ position_or_len (λ (x : ℕ). eqb x c) line → index_of c (b ∷ line) ≡ position_or_len (λ (x : ℕ). eqb x c) (b ∷ line)
+    at true e rest = rw e refl
+    at false e rest = rw e (omega (arith, rest))
+
+index_of_le : (c : ℕ) (line : List ℕ) → index_of c line ≤ length line
+index_of_le c line = omega (arith, stands_first c line, prefix_len-le-length (λ (b : ℕ). not (eqb b c)) line)
+
+first_or_end : (c : ℕ) (line : List ℕ) → unwrap_or (position (λ (b : ℕ). eqb b c) line) (length line) ≡ index_of c line
+first_or_end c line = at (ltb (position_or_len (λ (b : ℕ). eqb b c) line) (length line)) refl
+  where
+    at : (t : Bool) → ltb (position_or_len (λ (b : ℕ). eqb b c) line) (length line) ≡ t → unwrap_or (position (λ (b : ℕ). eqb b c) line) (length line) ≡ index_of c line
+    at true e = rw e (sym (stands_first c line))
+    at false e = rw e (omega (arith, ltb-false (position_or_len (λ (b : ℕ). eqb b c) line) (length line) e, index_of_le c line, stands_first c line))
+
+-- The first field ends where the first space stands, or with the line.
+pub field_ends : (line : List ℕ) (found : Option ℕ) (end : ℕ) → found ≡ position (λ (b : ℕ). eqb b space) line → end ≡ unwrap_or found (length line)
+    → (end ≡ index_of space line) × (end ≤ length line)
+field_ends line found end f e =
+    let ends : end ≡ index_of space line = e ∙ ap (λ (o : Option ℕ). unwrap_or o (length line)) f ∙ first_or_end space line in
+    (ends, omega (arith, ends, index_of_le space line))
+
 -- Without a space the line is one field.
 pub one_field : (line : List ℕ) → length line ≤ index_of space line → fields_of line ≡ last line
-unfolding fields_of index_of index_after
+unfolding fields_of index_of
 one_field [] h = refl
 one_field (b ∷ line) h = at (eqb b space) refl (one_field line)
   where
@@ -32,7 +62,7 @@ abbrev Parted : List ℕ → Type 0
 Parted line = fields_of line ≡ more (take (index_of space line) line) (fields_of (drop (suc (index_of space line)) line))
 
 first_field' : (line : List ℕ) → index_of space line < length line → Parted line
-unfolding fields_of index_of index_after
+unfolding fields_of index_of
 first_field' [] h = absurd (omega arith)
 first_field' (b ∷ line) h = at (eqb b space) refl (first_field' line)
   where

@@ -1,7 +1,6 @@
 // What a line of input means.
-ghost use Rattle.std.specs.Prelude.{◌≡◌, ◌≤◌, length};
-ghost use Rattle.bytes.specs.Bytes.{index_of};
-ghost use Rattle.bench_lines.specs.Command.{space, is_digit, digits_of, decimal_of, fields_of, alone, with_one, with_two, after_number, after_letter, command_of};
+ghost use Rattle.std.specs.Prelude.{◌≡◌, ◌==◌, ◌≤◌, length, position};
+ghost use Rattle.bench_lines.specs.Command.{space, index_of, is_digit, digits_of, decimal_of, fields_of, alone, with_one, with_two, after_number, after_letter, command_of};
 
 #[derive(Clone, Copy)]
 pub enum Command {
@@ -62,12 +61,17 @@ fn read_number(field: &[u8]) -> Number
     }
 }
 
+fn first_space(line: &[u8]) -> Option<usize>
+    ensures { result ≡ position (λ b. b == space) line.now }
+{
+    line.iter().position(|byte| *byte == b' ')
+}
+
 // The length of the first field: where the first space stands, or the end.
-#[tactic(auto, unfolding(bytes::specs::Bytes::slice))]
 fn field_end(line: &[u8]) -> usize
     ensures { (result ≡ index_of space line.now) × (result ≤ length line.now) }
 {
-    bytes::scan::find(line, 0, line.len(), b' ')
+    first_space(line).unwrap_or(line.len())
 }
 
 fn alone(letter: u8) -> Command

@@ -1,9 +1,7 @@
-use mathlib.Core.Path.{◌≡◌, refl, ◌∙◌, sym, ap}
+use mathlib.Core.Path.{◌≡◌}
 use Prim.Native.Nat.{◌+◌, ◌*◌, ◌-◌, ◌≤◌}
-use lib.ListN.{length, take, get_or}
-use lib.Seq.{take_all}
-use Rattle.bench_lines.specs.Line.{Appended, parted_in, field_of}
-use Rattle.bench_lines.proofs.Texts.{append_none, append_more, appended_as, fields_more, field_length}
+use lib.ListN.{length, take}
+use Rattle.bench_lines.specs.Line.{Appended, parted_in}
 use Rattle.bench_lines.proofs.text.put_fields.Given as goal
 
 abbrev pub invariant-loop-i : goal.invariant-loop-i
