@@ -4,51 +4,56 @@
 
 use table::{Checked, Shape};
 
-// A space and a number.
-fn print_field(n: u16) {
-    io::write_all(1, b" ");
-    io::print_decimal(1, n as u64);
+// A write that fails is passed over.
+fn print_bytes<P: Print>(rt: &P, bytes: &[u8]) {
+    let _ = rt.write_all(bytes);
 }
 
-fn print_flag(changing: bool) {
+// A space and a number.
+fn print_field<P: Print>(rt: &P, n: u16) {
+    let _ = print!(rt; " {n}");
+}
+
+fn print_flag<P: Print>(rt: &P, changing: bool) {
     if changing {
-        io::write_all(1, b"1");
+        print_bytes(rt, b"1");
     } else {
-        io::write_all(1, b"0");
+        print_bytes(rt, b"0");
     }
 }
 
-fn print_changing(file: &[u8], shape: Shape) {
+fn print_changing<P: Print>(rt: &P, file: &[u8], shape: Shape) {
     let operations = shape.operations;
     let mut operation: u16 = 0;
     while operation < operations {
-        print_flag(reach::is_changing(file, shape, operation));
+        print_flag(rt, reach::is_changing(file, shape, operation));
         operation += 1;
     }
 }
 
-fn report(file: &[u8]) {
+fn report<P: Print>(rt: &P, file: &[u8]) {
     let checked = table::check(file);
     match checked {
         Checked::Refused(cause) => {
-            io::write_all(1, b"x");
-            print_field(refusal::number(cause) as u16);
+            print_bytes(rt, b"x");
+            print_field(rt, refusal::number(cause) as u16);
         }
         Checked::Accepted(shape) => {
-            io::write_all(1, b"ok");
-            print_field(shape.states);
-            print_field(shape.operations);
-            print_field(shape.start);
-            io::write_all(1, b" ");
-            print_changing(file, shape);
+            print_bytes(rt, b"ok");
+            print_field(rt, shape.states);
+            print_field(rt, shape.operations);
+            print_field(rt, shape.start);
+            print_bytes(rt, b" ");
+            print_changing(rt, file, shape);
         }
     }
-    io::write_all(1, b"\n");
+    print_bytes(rt, b"\n");
 }
 
 // One byte more than the longest file is room enough to see that a file is too long.
-fn main() {
+fn main(rt: HostRuntime) {
     let mut room = [0u8; table::LONGEST_FILE + 1];
-    let length = io::read_full(0, &mut room);
-    report(&room[..length]);
+    let mut input = rt.reader();
+    let length = reading::read_full(&mut input, &mut room);
+    report(&rt, &room[..length]);
 }

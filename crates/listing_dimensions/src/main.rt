@@ -1,5 +1,5 @@
 #![tactic(auto)]
 
-fn main() {
-    bench_session::input::serve_all();
+fn main(rt: HostRuntime) {
+    bench_session::input::serve_all(&rt);
 }
