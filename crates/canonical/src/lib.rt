@@ -17,7 +17,7 @@ use table::{Checked, Entry, Shape};
 const ENTRY_BYTES: u32 = 2;
 
 // The entry of a new number and an operation: the next state by its new number.
-#[tactic(auto, using(crate::proofs::Arrays::few, crate::proofs::Arrays::order_long, crate::proofs::Arrays::number_long, crate::proofs::Arrays::read_small, crate::proofs::Arrays::read_some, crate::proofs::Arrays::read_renumbered))]
+#[tactic(auto, using(crate::proofs::Arrays::read_some, crate::proofs::Arrays::read_renumbered))]
 fn entry_at(
     file: &[u8],
     shape: Shape,
@@ -38,7 +38,7 @@ fn entry_at(
 }
 
 // Writes the entries of a new number at a place of the room.
-#[tactic(auto, using(laws::proofs::Lists::sets_then, table_writer::proofs::ReadsBack::state_length, crate::proofs::Arrays::few_operations), unfolding(laws::specs::Joined::joined))]
+#[tactic(auto, using(laws::proofs::Lists::sets_then, table_writer::proofs::ReadsBack::state_length), unfolding(laws::specs::Joined::joined))]
 fn write_state(
     room: &mut [u8],
     at: u32,
@@ -61,7 +61,7 @@ fn write_state(
 }
 
 // Writes the entries of all new numbers at the room's start.
-#[tactic(auto, using(laws::proofs::Lists::sets_then, table_writer::proofs::ReadsBack::entries_length, crate::proofs::Arrays::few, crate::proofs::Arrays::few_operations), unfolding(laws::specs::Joined::joined))]
+#[tactic(auto, using(laws::proofs::Lists::sets_then, table_writer::proofs::ReadsBack::entries_length), unfolding(laws::specs::Joined::joined))]
 fn write_states(
     room: &mut [u8],
     file: &[u8],
@@ -82,7 +82,7 @@ fn write_states(
 }
 
 // Writes the file at the room's start.
-#[tactic(auto, using(laws::proofs::Lists::sets_then, table_writer::proofs::ReadsBack::entries_length, crate::proofs::Arrays::few, crate::proofs::Arrays::few_operations), unfolding(crate::specs::Canonical::renumbered, table_writer::specs::Written::file_of))]
+#[tactic(auto, using(laws::proofs::Lists::sets_then, table_writer::proofs::ReadsBack::entries_length), unfolding(crate::specs::Canonical::renumbered, table_writer::specs::Written::file_of))]
 fn write_file(
     room: &mut [u8],
     file: &[u8],

@@ -64,7 +64,7 @@ fn kind_at(rings: &[u32], place: usize) -> u32
 }
 
 // Whether every ring's length and kind are in range.
-#[tactic(auto, using(laws::proofs::Below::all_of, laws::proofs::Below::not_all))]
+#[tactic(auto, using(laws::proofs::Below::all_of))]
 fn each_ring_fits(rings: &[u32]) -> bool
     ensures { result ≡ all_below (ring_count rings.now) (λ place. ring_fits (length_of rings.now place) (kind_of rings.now place)) }
 {
@@ -111,7 +111,7 @@ fn owns_between(start: u64, end: u64, kind: u32, chainage: u64) -> bool
 }
 
 // The place of the first ring that owns a chainage; the number of rings if none does.
-#[tactic(auto, using(laws::proofs::Lowest::lowest_at, laws::proofs::Lowest::lowest_none, crate::proofs::Ranges::fits_range))]
+#[tactic(auto, using(laws::proofs::Lowest::lowest_none, crate::proofs::Ranges::fits_range))]
 fn first_owner(rings: &[u32], chainage: u64) -> usize
     requires { rings_fit rings.now ≡ true }
     ensures { result ≡ first_owner rings.now chainage }

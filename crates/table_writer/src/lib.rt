@@ -20,7 +20,6 @@ fn put(room: &mut [u8], at: usize, byte: u8)
 }
 
 // Writes two bytes.
-#[tactic(auto, using(laws::proofs::Lists::sets_then))]
 fn put_two(room: &mut [u8], at: usize, first: u8, second: u8)
     requires { at ≤ 2 ^ 33 }
     ensures { room.new ≡ sets room.old at (first ∷ second ∷ []) }
@@ -38,7 +37,6 @@ fn put16(room: &mut [u8], at: usize, value: u16)
 }
 
 // Writes a number of four bytes, the low byte first.
-#[tactic(auto, using(laws::proofs::Lists::sets_then))]
 fn put32(room: &mut [u8], at: usize, value: u32)
     requires { at ≤ 2 ^ 32 }
     ensures { room.new ≡ sets room.old at (bytes32 value) }
@@ -48,7 +46,6 @@ fn put32(room: &mut [u8], at: usize, value: u32)
 }
 
 // Writes the mark.
-#[tactic(auto, using(laws::proofs::Lists::sets_then))]
 fn put_mark(room: &mut [u8], at: usize)
     requires { at ≤ 2 ^ 33 }
     ensures { room.new ≡ sets room.old at mark }
@@ -70,7 +67,6 @@ pub fn write_entry(room: &mut [u8], at: u32, entry: Entry)
 }
 
 // Writes a trailer at a place of the room.
-#[tactic(auto, using(laws::proofs::Lists::sets_then))]
 pub fn write_trailer(room: &mut [u8], at: u32, shape: Shape)
     ensures { room.new ≡ sets room.old at (trailer_of shape) }
 {

@@ -12,7 +12,8 @@ decreases-their_turn l = l.left
 -- No operation passed leads to a turn that is won.
 abbrev pub invariant-our_turn-loop-operation : goal.invariant-our_turn-loop-operation
 invariant-our_turn-loop-operation l =
-    (l.operation ≤ l.operations) × ((k : ℕ) → k < l.operation → to_theirs l.file l.shape l.targets (l.left - 1) l.state k ≡ false)
+    (l.operation ≤ l.operations)
+    × ((k : ℕ) → k < l.operation → to_theirs l.file l.shape l.targets (l.left - 1) l.state k ≡ false)
 
 abbrev pub decreases-our_turn-loop-operation : goal.decreases-our_turn-loop-operation
 decreases-our_turn-loop-operation l = l.operations - l.operation
@@ -20,7 +21,8 @@ decreases-our_turn-loop-operation l = l.operations - l.operation
 -- Every operation passed leads to a turn that is won.
 abbrev pub invariant-their_turn-loop-operation : goal.invariant-their_turn-loop-operation
 invariant-their_turn-loop-operation l =
-    (l.operation ≤ l.operations) × ((k : ℕ) → k < l.operation → to_ours l.file l.shape l.targets (l.left - 1) l.state k ≡ true)
+    (l.operation ≤ l.operations)
+    × ((k : ℕ) → k < l.operation → to_ours l.file l.shape l.targets (l.left - 1) l.state k ≡ true)
 
 abbrev pub decreases-their_turn-loop-operation : goal.decreases-their_turn-loop-operation
 decreases-their_turn-loop-operation l = l.operations - l.operation
