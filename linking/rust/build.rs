@@ -1,8 +1,8 @@
-//! Links libdrive_object.a from the folder in DRIVE_OBJECT_FOLDER, else from where `rt staticlib` writes it.
+//! Links libdrive_object.a from the folder in DRIVE_OBJECT_FOLDER, else from where `rt lib` in its crate writes it.
 
 use std::path::PathBuf;
 
-const WRITTEN_BY_RT: &str = "../../target/staticlib";
+const WRITTEN_BY_RT: &str = "../../crates/drive_object/out";
 
 fn main() {
     let folder = match std::env::var_os("DRIVE_OBJECT_FOLDER") {

@@ -1,7 +1,7 @@
 #!/usr/bin/env python3
 """Spells the names that this repository's definitions and lemmas declare as Rattle spells names: words in snake case.
 
-usage: tools/snake_names.py [FOLDER]
+usage: tools/names/snake_names.py [FOLDER]
 
 Run once, after the kit's port.py, at the top of the repository (or of FOLDER). A name of a definition, lemma, field or
 constructor loses its dashes and its inner capitals: `ownerOf` and `owner-answered` become `owner_of` and `owner_answered`.

@@ -6,7 +6,7 @@ use std::process::Command;
 
 use crate::listing::Listing;
 
-const WRITTEN_BY_RT: &str = "../../target/staticlib";
+const WRITTEN_BY_RT: &str = "../../crates/drive_object/out";
 const MEASURING: &str = "met.c";
 
 /// The folder of this package.
@@ -14,7 +14,7 @@ fn here() -> &'static Path {
     Path::new(env!("CARGO_MANIFEST_DIR"))
 }
 
-/// The folder of libdrive_object.a: the one in DRIVE_OBJECT_FOLDER, else the one that `rt staticlib` writes to.
+/// The folder of libdrive_object.a: the one in DRIVE_OBJECT_FOLDER, else the one that `rt lib` writes to.
 fn folder() -> PathBuf {
     match std::env::var_os("DRIVE_OBJECT_FOLDER") {
         Some(folder) => PathBuf::from(folder),
