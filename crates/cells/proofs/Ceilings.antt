@@ -1,12 +1,12 @@
 -- The ceiling is 1,000 × n × n × n for 1 to 8 tasks, as the contract lists it, and no other number of tasks has one: laws, and a
 -- proof of each statement about ceilings in specs/Statement.antt.
 use mathlib.Core.Path.{◌≡◌, refl, sym, ap, ◌∙◌}
-use mathlib.Core.Bool.{Bool, true, false, ◌&&◌, cond, and-eq-true_iff}
+use mathlib.Core.Bool.{Bool, true, false, ◌&&◌, cond}
 use mathlib.Core.List.{[], ◌∷◌}
 use Prim.Native.Nat.{ℕ, suc, ◌*◌, ◌-◌, ◌<◌, ◌≤◌}
 use native.Mathlib.Nat.{mul-le-mul, mul-le-mul_right, mul-lt-mul_of_pos_left, one-le-mul}
 use native.Mathlib.Omega.{arith}
-use borrow.Author.Tests.{eqb-true, leb-true, le-leb}
+use borrow.Author.Tests.{eqb-true}
 use lib.Dec.{eqb, leb}
 use lib.ListN.{get_or}
 use Rattle.laws.specs.Below.{all_below}
@@ -15,8 +15,9 @@ use Rattle.laws.proofs.Choice.{choice_by}
 use Rattle.refusal.specs.declared.Refusal.TheVariants.{Row}
 use Rattle.refusal.specs.Number.{accepted}
 use Rattle.refusal.proofs.Numbers.{numbers_apart, values_same}
-use Rattle.cells.specs.Ceiling.{ceiling_of, ceiling_said, listed_ceilings, listed_ceiling}
-use Rattle.cells.specs.Statement.{CeilingIs, Product, RefusedOutside, AsListed, Grows, Greatest}
+use Rattle.cells.specs.Ceiling.{ceiling_of, ceiling_said, listed_ceilings}
+use Rattle.cells.specs.Statement.{CeilingIs, Product, RefusedOutside, Grows, Greatest}
+use Rattle.cells.proofs.Served.{passes, in_range}
 use Rattle.cells.specs.declared.ceiling.Ceiling.TheVariants.{Steps, Refused}
 
 -- ---- The product
@@ -28,16 +29,13 @@ products n h = let square = mul-le-mul h h in (square, mul-le-mul square h)
 -- For 1 to 8 tasks the ceiling is the product.
 pub ceiling_cubed : (n : ℕ) → 1 ≤ n → n ≤ 8 → ceiling_of n ≡ Steps (1000 * (n * n * n))
 unfolding ceiling_of
-ceiling_cubed n h l = simp (le-leb 1 n h, le-leb n 8 l)
-
-in_range : (n : ℕ) → leb 1 n && leb n 8 ≡ true → (1 ≤ n) × (n ≤ 8)
-in_range n e = let both = (and-eq-true_iff (leb 1 n) (leb n 8)).0 e in (leb-true 1 n both.0, leb-true n 8 both.1)
+ceiling_cubed n h l = rw (passes n h l)
 
 -- Any other number of tasks has no ceiling.
 pub no_ceiling : (n : ℕ) → (1 ≤ n → n ≤ 8 → ⊥) → ceiling_of n ≡ Refused Row
 unfolding ceiling_of
 no_ceiling n out =
-    choice_by (λ c. c ≡ Refused Row) (leb 1 n && leb n 8) (λ e. let range = in_range n e in absurd (out range.0 range.1)) (λ _. refl)
+    choice_by (λ c. c ≡ Refused Row) _ (λ e. let range = in_range n e in absurd (out range.0 range.1)) (λ _. refl)
 
 -- The number that it is told is 5.
 pub ceiling_refused : (n : ℕ) → (1 ≤ n → n ≤ 8 → ⊥) → (ceiling_said (ceiling_of n)).number ≡ 5
@@ -69,21 +67,12 @@ as_product : ℕ → Bool
 as_product k = eqb (get_or listed_ceilings k 0) (1000 * (suc k * suc k * suc k))
 
 -- The list's entry for n tasks is the product, by one computed test over its eight entries.
-entry_cubed : (n : ℕ) → 1 ≤ n → n ≤ 8 → get_or listed_ceilings (n - 1) 0 ≡ 1000 * (n * n * n)
+pub entry_cubed : (n : ℕ) → 1 ≤ n → n ≤ 8 → get_or listed_ceilings (n - 1) 0 ≡ 1000 * (n * n * n)
 unfolding as_product all_below
 entry_cubed n h l =
     let e : suc (n - 1) ≡ n = omega arith in
     let tested : as_product (n - 1) ≡ true = all_at 8 as_product refl (n - 1) (omega arith) in
     rw e at (eqb-true (get_or listed_ceilings (n - 1) 0) (1000 * (suc (n - 1) * suc (n - 1) * suc (n - 1))) tested)
-
--- So the answers are those by the list.
-pub as_listed : (n : ℕ) → AsListed n
-unfolding ceiling_of listed_ceiling
-as_listed n = by (leb 1 n && leb n 8) refl
-  where
-    by : (b : Bool) → leb 1 n && leb n 8 ≡ b → ceiling_said (ceiling_of n) ≡ listed_ceiling n
-    by true e = let range = in_range n e in rw (e, entry_cubed n range.0 range.1)
-    by false e = rw e
 
 -- ---- Growth
 

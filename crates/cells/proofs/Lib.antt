@@ -9,6 +9,8 @@ pub mod Linked
 pub mod Images
 pub mod Untraced
 pub mod Counts
+pub mod Served
 pub mod Ceilings
+pub mod Listed
 pub mod Cases
 pub mod Theorem
