@@ -1,7 +1,5 @@
-use mathlib.Core.Path.{◌≡◌, ◌∙◌, ap, sym}
-use Prim.Native.Nat.{ℕ, ◌-◌}
+use mathlib.Core.Path.{◌≡◌}
 use Rattle.bench_session.specs.Run.{most_turns, finish_from}
-use Rattle.bench_session.proofs.Runs.{finish_more, finish_last, finish_none, most_turns_lem}
 use Rattle.bench_session.proofs.run.finish.Given as goal
 
 abbrev pub invariant-loop-turns : goal.invariant-loop-turns
