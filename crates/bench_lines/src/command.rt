@@ -61,6 +61,7 @@ fn read_number(field: &[u8]) -> Number
     }
 }
 
+// Where the first space stands.
 fn first_space(line: &[u8]) -> Option<usize>
     ensures { result ≡ position (λ b. b == space) line.now }
 {
