@@ -1,5 +1,5 @@
 -- The ceiling is 1,000 × n × n × n for 1 to 8 tasks, as the contract lists it, and no other number of tasks has one: laws, and a
--- proof of each statement about ceilings in specs/Statement.antt.
+-- proof of each statement about ceilings in specs/Statement.antt but `AsListed`, which is in Listed.antt.
 use mathlib.Core.Path.{◌≡◌, refl, sym, ap, ◌∙◌}
 use mathlib.Core.Bool.{Bool, true, false, ◌&&◌, cond}
 use mathlib.Core.List.{[], ◌∷◌}

@@ -1,6 +1,6 @@
 -- docs/FORMATS.md, "The cells": which bits a print is read by, what is proved of the form of a head, with s states and n tasks, and
 -- when a cell is in form; the proofs are in proofs/Theorem.antt. docs/RUNS.md: what is proved of the ceiling; the proofs are in
--- proofs/Ceilings.antt.
+-- proofs/Ceilings.antt and proofs/Listed.antt.
 use Rattle.std.specs.Prelude.{◌≡◌, Bool, true, false, ◌&&◌, ◌↔◌, [], ◌∷◌, ℕ, ◌+◌, ◌*◌, ◌/◌, ◌%◌, ◌^◌, ◌<◌, ◌≤◌, eqb, ltb, leb}
 use Rattle.refusal.specs.Number.{accepted, refused_by}
 use Rattle.cells.specs.Ceiling.{ceiling_of, ceiling_said, greatest_ceiling, listed_ceiling}
