@@ -50,7 +50,7 @@ module _ (file : List ℕ) (served : Served file) where
 
   -- ---- What is read from the file
 
-  limits : WithinLimits (length order) shape.operations 0 (renumbered_entry file shape order)
+  limits : let new = renumbered_shape shape order in WithinLimits new.states new.operations new.start (renumbered_entry file shape order)
   limits =
       record {
         some_state = order_some file shape closed;
@@ -59,7 +59,7 @@ module _ (file : List ℕ) (served : Served file) where
         few_operations = fits.few_operations;
         start_below = order_some file shape closed;
         next_below = listed_next;
-        response_byte = λ number operation _ _. response_byte file shape served.0 (get_or order number 0) operation;
+        response_byte = λ number operation _ _. response_byte file shape served.0 _ operation;
       }
 
   back : ReadsBack (length order) shape.operations 0 (renumbered_entry file shape order)
