@@ -1,4 +1,5 @@
 -- A start by its parts: the cells that it fills, and the records.
+use Rattle.std.specs.Prelude.{Result, Ok, Err, ⊤}
 use mathlib.Core.Path.{◌≡◌, refl, ap, sym, ◌∙◌}
 use mathlib.Core.Bool.{Bool, true, false}
 use mathlib.Core.List.{List, [], ◌∷◌, ◌++◌, append-nil}
@@ -10,23 +11,21 @@ use lib.Dec.{eqb}
 use lib.ListN.{length, get_or, drop, set, length-append}
 use lib.Seq.{set_at, drop-cons, drop-length, append_snoc}
 use Rattle.cells.specs.Image.{image_in}
-use Rattle.table.specs.declared.Checked.{Checked}
 use Rattle.table.specs.Check.{check_of}
-use Rattle.stepping.specs.declared.call.Admitted.{Admitted}
-use Rattle.stepping.specs.declared.call.Admitted.TheVariants as admitted
 use Rattle.stepping.specs.declared.answer.Start.{Start}
-use Rattle.stepping.specs.declared.answer.StartAnswer.{StartAnswer}
-use Rattle.stepping.specs.declared.answer.StartAnswer.TheVariants as start
 use Rattle.records.specs.declared.record.Task.{Task}
 use Rattle.records.specs.Record.{idle_task}
 use Rattle.stepping.specs.Call.{idle_row, StartOutcome, with_row, filled, start_of, with_cells, admit_start_of}
 use Rattle.stepping.proofs.Admission.{admitted_ranges}
 use Rattle.drive.specs.Start.{started_cells, idle_count}
+use Rattle.table.specs.declared.Shape.{Shape}
+use Rattle.refusal.specs.declared.Refusal.{Refusal}
+use Rattle.stepping.specs.declared.call.Admission.{Admission}
 
 -- ---- The cells
 
 -- The answer and the cells after a start's tests, with n records.
-abbrev pub CellsSaid : (file cs : List ℕ) → ℕ → StartAnswer → List ℕ → Type 0
+abbrev pub CellsSaid : (file cs : List ℕ) → ℕ → Result ⊤ Refusal → List ℕ → Type 0
 CellsSaid file cs n a cs' = (a ≡ (admit_start_of file (length cs) n).answer) × (cs' ≡ started_cells (admit_start_of file (length cs) n) cs)
 
 -- The answer and the cells after a start that is granted, and after one that is refused.
@@ -69,24 +68,24 @@ filled_whole k i ys zs e low high = let all : i ≡ k = omega arith in e ∙ ap 
 -- ---- The whole start
 
 -- The cells, the row and the answer at the exit of a start.
-abbrev pub StartSaid : (file cs : List ℕ) → List Task → List ℕ → List Task → StartAnswer → Type 0
+abbrev pub StartSaid : (file cs : List ℕ) → List Task → List ℕ → List Task → Result ⊤ Refusal → Type 0
 StartSaid file cs ys cs' ys' a = ◌≡◌ {A = StartOutcome} (record { cells = cs'; row = ys'; answer = a }) (start_of file cs ys)
 
 -- A start by its parts, from what its tests find.
 abbrev parts : List ℕ → List Task → Start → StartOutcome
 parts cs ys found = record { cells = started_cells found cs; row = filled_to (idle_count found.answer (length ys)) ys; answer = found.answer }
 
-by_parts : (cs : List ℕ) (ys : List Task) (w : Admitted) → parts cs ys (with_cells (length cs) (length ys) w) ≡ filled cs ys (with_cells (length cs) (length ys) w)
+by_parts : (cs : List ℕ) (ys : List Task) (w : Result Admission Refusal) → parts cs ys (with_cells (length cs) (length ys) w) ≡ filled cs ys (with_cells (length cs) (length ys) w)
 unfolding image_in idle_row
-by_parts cs ys (admitted.Refused c) = refl
-by_parts cs ys (admitted.Admits c shape) = at (eqb (length cs) (length ys + 1)) refl
+by_parts cs ys (Err c) = refl
+by_parts cs ys (Ok found) = at (eqb (length cs) (length ys + 1)) refl
   where
-    at : (b : Bool) → eqb (length cs) (length ys + 1) ≡ b → parts cs ys (with_cells (length cs) (length ys) (admitted.Admits c shape)) ≡ filled cs ys (with_cells (length cs) (length ys) (admitted.Admits c shape))
+    at : (b : Bool) → eqb (length cs) (length ys + 1) ≡ b → parts cs ys (with_cells (length cs) (length ys) (Ok found)) ≡ filled cs ys (with_cells (length cs) (length ys) (Ok found))
     at false e = rw e refl
     at true e =
         rw (e, eqb-true (length cs) (length ys + 1) e, add-one, drop-length ys, append-nil (idle_row (length ys))) refl
 
-pub start_said_lem : (file cs : List ℕ) (ys : List Task) (cs' : List ℕ) (a : StartAnswer)
+pub start_said_lem : (file cs : List ℕ) (ys : List Task) (cs' : List ℕ) (a : Result ⊤ Refusal)
     → CellsSaid file cs (length ys) a cs' → StartSaid file cs ys cs' (filled_to (idle_count a (length ys)) ys) a
 unfolding start_of admit_start_of
 start_said_lem file cs ys cs' a e =
@@ -94,17 +93,17 @@ start_said_lem file cs ys cs' a e =
 
 -- ---- How many records are filled
 
-idle_below : (a : StartAnswer) (n : ℕ) → idle_count a n ≤ n
-idle_below start.Started n = omega arith
-idle_below (start.Refused c) n = omega arith
+idle_below : (a : Result ⊤ Refusal) (n : ℕ) → idle_count a n ≤ n
+idle_below (Ok tt) n = omega arith
+idle_below (Err c) n = omega arith
 
-few : (k n : ℕ) (checked : Checked) (found : Admitted) → with_row n checked ≡ found → idle_count (with_cells k n found).answer n ≤ 8
-few k n checked (admitted.Refused c) e = omega arith
-few k n checked (admitted.Admits c shape) e =
-    omega (arith, idle_below (with_cells k n (admitted.Admits c shape)).answer n, (admitted_ranges n c shape checked e).few)
+few : (k n : ℕ) (checked : Result Shape Refusal) (found : Result Admission Refusal) → with_row n checked ≡ found → idle_count (with_cells k n found).answer n ≤ 8
+few k n checked (Err c) e = omega arith
+few k n checked (Ok found) e =
+    omega (arith, idle_below (with_cells k n (Ok found)).answer n, (admitted_ranges n found checked e).few)
 
 -- The records that a start fills are in the row, and at most eight.
-pub count_fits : (file cs : List ℕ) (ys : List Task) (a : StartAnswer) → a ≡ (admit_start_of file (length cs) (length ys)).answer
+pub count_fits : (file cs : List ℕ) (ys : List Task) (a : Result ⊤ Refusal) → a ≡ (admit_start_of file (length cs) (length ys)).answer
     → (idle_count a (length ys) ≤ length ys) × (idle_count a (length ys) ≤ 8)
 unfolding admit_start_of
 count_fits file cs ys a e = (idle_below a (length ys), rw e (few (length cs) (length ys) (check_of file) (with_row (length ys) (check_of file)) refl))

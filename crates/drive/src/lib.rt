@@ -36,8 +36,8 @@ fn idle_count(answer: StartAnswer, tasks: usize) -> usize
     ensures { result ≡ idle_count answer tasks }
 {
     match answer {
-        StartAnswer::Started => tasks,
-        StartAnswer::Refused(_) => 0,
+        Ok(()) => tasks,
+        Err(_) => 0,
     }
 }
 

@@ -57,10 +57,10 @@ fn check_word(answer: Checked) -> u64
     ensures { result ≡ check_word answer }
 {
     match answer {
-        Checked::Accepted(shape) => {
+        Ok(shape) => {
             word(0, 0, shape.states, halves(shape.operations, shape.start))
         }
-        Checked::Refused(cause) => refused_word(cause),
+        Err(cause) => refused_word(cause),
     }
 }
 
@@ -69,8 +69,8 @@ fn start_word(answer: StartAnswer) -> u64
     ensures { result ≡ start_word answer }
 {
     match answer {
-        StartAnswer::Started => word(0, 0, 0, 0),
-        StartAnswer::Refused(cause) => refused_word(cause),
+        Ok(()) => word(0, 0, 0, 0),
+        Err(cause) => refused_word(cause),
     }
 }
 
@@ -79,8 +79,8 @@ fn begin_word(answer: BeginAnswer) -> u64
     ensures { result ≡ begin_word answer }
 {
     match answer {
-        BeginAnswer::Begun => word(0, 0, 0, 0),
-        BeginAnswer::Refused(cause) => refused_word(cause),
+        Ok(()) => word(0, 0, 0, 0),
+        Err(cause) => refused_word(cause),
     }
 }
 
@@ -89,13 +89,13 @@ fn step_word(answer: StepAnswer) -> u64
     ensures { result ≡ step_word answer }
 {
     match answer {
-        StepAnswer::Running => word(0, 0, 0, 0),
+        Ok(Progress::Running) => word(0, 0, 0, 0),
         StepAnswer::Ended {
             response,
             moved,
             steps,
         } => word(0, ended_flags(moved), response, steps),
-        StepAnswer::Refused(cause) => refused_word(cause),
+        Err(cause) => refused_word(cause),
     }
 }
 
@@ -104,8 +104,8 @@ fn window_word(answer: WindowAnswer) -> u64
     ensures { result ≡ window_word answer }
 {
     match answer {
-        WindowAnswer::Served => word(0, 0, 0, 0),
-        WindowAnswer::Refused(cause) => refused_word(cause),
+        Ok(()) => word(0, 0, 0, 0),
+        Err(cause) => refused_word(cause),
     }
 }
 
@@ -114,9 +114,9 @@ fn line_word(answer: LineAnswer) -> u64
     ensures { result ≡ line_word answer }
 {
     match answer {
-        LineAnswer::Up => word(0, 0, 1, 0),
-        LineAnswer::Down => word(0, 0, 0, 0),
-        LineAnswer::Refused(cause) => refused_word(cause),
+        Ok(Line::Up) => word(0, 0, 1, 0),
+        Ok(Line::Down) => word(0, 0, 0, 0),
+        Err(cause) => refused_word(cause),
     }
 }
 
@@ -125,8 +125,8 @@ fn ceiling_word(answer: Ceiling) -> u64
     ensures { result ≡ ceiling_word answer }
 {
     match answer {
-        Ceiling::Steps(steps) => word(0, 0, 0, steps),
-        Ceiling::Refused(cause) => refused_word(cause),
+        Ok(steps) => word(0, 0, 0, steps),
+        Err(cause) => refused_word(cause),
     }
 }
 
@@ -145,8 +145,8 @@ fn written_word(answer: Written) -> u64
     ensures { result ≡ written_word answer }
 {
     match answer {
-        Written::Length(length) => word(0, 0, 0, length),
-        Written::Refused(cause) => refused_word(cause),
+        Ok(length) => word(0, 0, 0, length),
+        Err(cause) => refused_word(cause),
     }
 }
 

@@ -3,7 +3,7 @@ ghost use Rattle.std.specs.Prelude.{◌≡◌, ◌+◌, ◌%◌, ◌<◌};
 ghost use Rattle.records.specs.Phase.{phase_number};
 ghost use Rattle.stepping.specs.Step.{advance_of, answer_of};
 
-use crate::answer::{Step, StepAnswer};
+use crate::answer::{Progress, Step};
 use records::phase::Phase;
 use records::record::Task;
 use records::{phase, record};
@@ -54,7 +54,7 @@ pub(crate) fn advance(tasks: usize, own: Task, next: Next) -> Step
             announcement,
         } => Step {
             task: stepped(own, steps, own.priority, phase, payload, head, announcement),
-            answer: StepAnswer::Running,
+            answer: Ok(Progress::Running),
         },
         Next::Turn => Step {
             task: stepped(
@@ -66,15 +66,15 @@ pub(crate) fn advance(tasks: usize, own: Task, next: Next) -> Step
                 0,
                 0,
             ),
-            answer: StepAnswer::Running,
+            answer: Ok(Progress::Running),
         },
         Next::End { response, moved } => Step {
             task: record::idle_task(own.priority),
-            answer: StepAnswer::Ended {
+            answer: Ok(Progress::Ended {
                 response,
                 moved,
                 steps,
-            },
+            }),
         },
     }
 }

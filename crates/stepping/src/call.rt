@@ -1,86 +1,60 @@
 // The calls for one task, by value: the tests in their order, and what an accepted call does.
-ghost use Rattle.std.specs.Prelude.{◌≡◌, cond, ◌+◌, ◌≤◌, ◌<◌, length};
+ghost use Rattle.std.specs.Prelude.{◌≡◌, cond, ◌+◌, ◌≤◌, ◌<◌, length, Ok, Err};
 ghost use Rattle.cells.specs.Ceiling.{greatest_ceiling};
 ghost use Rattle.reach.specs.Changing.{changing};
 ghost use Rattle.records.specs.Phase.{phase_of, phase_number};
 ghost use Rattle.records.specs.Record.{idle_in_form, read_record};
 ghost use Rattle.transition.specs.Transition.{plan_of};
 ghost use Rattle.stepping.specs.Step.{touched};
-ghost use Rattle.stepping.specs.Call.{with_row, admit_of, not_granted, admit_start_of, refuse_begin, begun_task, begin_from, begin_in, begin_task, step_from, step_in, step_task};
+ghost use Rattle.stepping.specs.Call.{with_row, admit_of, admit_start_of, refuse_begin, begun_task, begin_from, begin_in, begin_task, step_from, step_in, step_task};
 
-use crate::answer::{Begin, BeginAnswer, Start, StartAnswer, Step, StepAnswer};
+use crate::answer::{Begin, Step};
 use crate::{advance, perform};
 use cells::ceiling;
-use cells::ceiling::Ceiling;
-use records::phase::{Phase, PhaseRead};
+use records::phase::Phase;
 use records::record::Task;
 use records::{phase, record};
 use refusal::Refusal;
-use table::{Checked, Shape};
+use table::Shape;
 use transition::{entry, next, plan};
 
-// What the tests that all calls share find: the table's shape and the ceiling of own steps, or the first cause.
+// What the tests that all calls share find.
 #[derive(Clone, Copy)]
-pub enum Admitted {
-    Admits { ceiling: u32, shape: Shape },
-    Refused(Refusal),
+pub struct Admission {
+    // The ceiling of own steps for the number of tasks.
+    pub ceiling: u32,
+    // The table's shape.
+    pub shape: Shape,
 }
 
 // Cause 5 on the number of records, after what the test of the file answered.
-fn with_row(tasks: usize, checked: Checked) -> Admitted
+fn with_row(tasks: usize, checked: Result<Shape, Refusal>) -> Result<Admission, Refusal>
     ensures { result ≡ with_row tasks checked }
 {
-    match checked {
-        Checked::Refused(cause) => Admitted::Refused(cause),
-        Checked::Accepted(shape) => {
-            let found = ceiling::ceiling_for(tasks);
-            match found {
-                Ceiling::Refused(cause) => Admitted::Refused(cause),
-                Ceiling::Steps(ceiling) => Admitted::Admits { ceiling, shape },
-            }
-        }
-    }
+    let shape = checked?;
+    let ceiling = ceiling::ceiling_for(tasks)?;
+    Ok(Admission { ceiling, shape })
 }
 
 // The tests that begin and step share: causes 1 to 3, then 5.
 #[tactic(auto, unfolding(crate::specs::Call::admit_of))]
-pub fn admit(file: &[u8], tasks: usize) -> Admitted
+pub fn admit(file: &[u8], tasks: usize) -> Result<Admission, Refusal>
     ensures { result ≡ admit_of file.now tasks }
 {
     with_row(tasks, table::check_layout(file))
 }
 
-// A start that is not granted.
-fn refuse_start(cause: Refusal) -> Start
-    ensures { result ≡ not_granted cause }
-{
-    Start {
-        granted: false,
-        state: 0,
-        answer: StartAnswer::Refused(cause),
-    }
-}
-
-// The tests of start on a file, a number of cells and a number of records: causes 1 to 6. If it is granted, the cells are
-// to be filled with the image of the state, and the records with idle tasks.
+// The tests of start on a file, a number of cells and a number of records: causes 1 to 6. If none holds, the cells are to be
+// filled with the image of the state that is answered, and the records with idle tasks.
 #[tactic(auto, using(crate::proofs::Admission::admitted_ranges), unfolding(crate::specs::Call::admit_start_of))]
-pub fn admit_start(file: &[u8], cells: usize, tasks: usize) -> Start
+pub fn admit_start(file: &[u8], cells: usize, tasks: usize) -> Result<u16, Refusal>
     ensures { result ≡ admit_start_of file.now cells tasks }
 {
-    let admitted = with_row(tasks, table::check(file));
-    match admitted {
-        Admitted::Refused(cause) => refuse_start(cause),
-        Admitted::Admits { ceiling: _, shape } => {
-            if cells != tasks + 1 {
-                return refuse_start(Refusal::Cells);
-            }
-            Start {
-                granted: true,
-                state: shape.start,
-                answer: StartAnswer::Started,
-            }
-        }
+    let admission = with_row(tasks, table::check(file))?;
+    if cells != tasks + 1 {
+        return Err(Refusal::Cells);
     }
+    Ok(admission.shape.start)
 }
 
 // A begin that is refused leaves the record as it was.
@@ -89,7 +63,7 @@ fn refuse_begin(own: Task, cause: Refusal) -> Begin
 {
     Begin {
         task: own,
-        answer: BeginAnswer::Refused(cause),
+        answer: Err(cause),
     }
 }
 
@@ -120,14 +94,14 @@ fn begun_task(file: &[u8], shape: Shape, operation: u16, own: Task) -> Task
 
 // Begin for a record in form: it is pending or idle.
 fn begin_from(file: &[u8], shape: Shape, operation: u16, own: Task) -> Begin
-    ensures { result ≡ begin_from file.now shape operation own (PhaseRead.Known Phase.Idle) }
+    ensures { result ≡ begin_from file.now shape operation own (Ok Phase.Idle) }
 {
     if own.phase != 0 {
         return refuse_begin(own, Refusal::Pending);
     }
     Begin {
         task: begun_task(file, shape, operation, own),
-        answer: BeginAnswer::Begun,
+        answer: Ok(()),
     }
 }
 
@@ -141,7 +115,7 @@ fn begin_in(
     operation: usize,
     own: Task,
 ) -> Begin
-    ensures { result ≡ begin_in file.now tasks task operation own (Admitted.Admits ceiling shape) }
+    ensures { result ≡ begin_in file.now tasks task operation own (Ok (record { ceiling = ceiling; shape = shape })) }
 {
     if task >= tasks {
         return refuse_begin(own, Refusal::Task);
@@ -155,8 +129,8 @@ fn begin_in(
     }
     let read = record::read_record(shape, tasks, ceiling, own);
     match read {
-        PhaseRead::Refused(cause) => refuse_begin(own, cause),
-        PhaseRead::Known(_) => begin_from(file, shape, chosen, own),
+        Err(cause) => refuse_begin(own, cause),
+        Ok(_) => begin_from(file, shape, chosen, own),
     }
 }
 
@@ -167,8 +141,8 @@ pub fn begin_task(file: &[u8], tasks: usize, task: usize, operation: usize, own:
 {
     let admitted = admit(file, tasks);
     match admitted {
-        Admitted::Refused(cause) => refuse_begin(own, cause),
-        Admitted::Admits { ceiling, shape } => {
+        Err(cause) => refuse_begin(own, cause),
+        Ok(Admission { ceiling, shape }) => {
             begin_in(file, shape, ceiling, tasks, task, operation, own)
         }
     }
@@ -176,11 +150,11 @@ pub fn begin_task(file: &[u8], tasks: usize, task: usize, operation: usize, own:
 
 // A step that is refused leaves the record as it was.
 fn refuse_step(own: Task, cause: Refusal) -> Step
-    ensures { result ≡ record { task = own; answer = StepAnswer.Refused cause } }
+    ensures { result ≡ record { task = own; answer = Err cause } }
 {
     Step {
         task: own,
-        answer: StepAnswer::Refused(cause),
+        answer: Err(cause),
     }
 }
 
@@ -197,7 +171,7 @@ fn step_from(
     phase: Phase,
 ) -> Step
     requires { (0 < tasks) × (tasks ≤ 8) × (task < tasks) × (own.priority < tasks) × (own.steps < 1000000) × (touched (plan_of file.now shape task own.priority own phase) < length cells.old) × (own.phase ≡ 0 → ⊥) }
-    ensures { record { cells = cells.exit.now; task = result.task; answer = result.answer } ≡ step_from file.now shape cells.entry.now tasks task own (PhaseRead.Known phase) }
+    ensures { record { cells = cells.exit.now; task = result.task; answer = result.answer } ≡ step_from file.now shape cells.entry.now tasks task own (Ok phase) }
 {
     let place = task as u8;
     let first = own.priority as u8;
@@ -238,7 +212,7 @@ fn step_known(
     own: Task,
     phase: Phase,
 ) -> Step
-    requires { (0 < tasks) × (tasks ≤ 8) × (ceiling ≤ greatest_ceiling) × (task < tasks) × (length cells.old ≡ tasks + 1) × (phase_of own.phase ≡ PhaseRead.Known phase) }
+    requires { (0 < tasks) × (tasks ≤ 8) × (ceiling ≤ greatest_ceiling) × (task < tasks) × (length cells.old ≡ tasks + 1) × (phase_of own.phase ≡ Ok phase) }
     ensures { record { cells = cells.exit.now; task = result.task; answer = result.answer } ≡ step_from file.now shape cells.entry.now tasks task own (read_record shape tasks ceiling own) }
 {
     if own.phase == 0 {
@@ -265,7 +239,7 @@ fn step_in(
     own: Task,
 ) -> Step
     requires { (0 < tasks) × (tasks ≤ 8) × (ceiling ≤ greatest_ceiling) }
-    ensures { record { cells = cells.exit.now; task = result.task; answer = result.answer } ≡ step_in file.now cells.entry.now tasks task own (Admitted.Admits ceiling shape) }
+    ensures { record { cells = cells.exit.now; task = result.task; answer = result.answer } ≡ step_in file.now cells.entry.now tasks task own (Ok (record { ceiling = ceiling; shape = shape })) }
 {
     if cells.len() != tasks + 1 {
         return refuse_step(own, Refusal::Cells);
@@ -275,8 +249,8 @@ fn step_in(
     }
     let read = phase::read_phase(own.phase);
     match read {
-        PhaseRead::Refused(cause) => refuse_step(own, cause),
-        PhaseRead::Known(phase) => {
+        Err(cause) => refuse_step(own, cause),
+        Ok(phase) => {
             step_known(file, cells, shape, ceiling, tasks, task, own, phase)
         }
     }
@@ -289,8 +263,8 @@ pub fn step_task(file: &[u8], cells: &mut [u64], tasks: usize, task: usize, own:
 {
     let admitted = admit(file, tasks);
     match admitted {
-        Admitted::Refused(cause) => refuse_step(own, cause),
-        Admitted::Admits { ceiling, shape } => {
+        Err(cause) => refuse_step(own, cause),
+        Ok(Admission { ceiling, shape }) => {
             step_in(file, cells, shape, ceiling, tasks, task, own)
         }
     }

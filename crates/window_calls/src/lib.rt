@@ -24,15 +24,15 @@ fn find_window(windows: &[u8], tasks: usize, task: usize) -> Place
     ensures { (result ≡ place_of windows.now tasks task) × (result ≡ Place.Inside → 8 * task + 7 < length windows.now) }
 {
     if windows.len() % write::BYTES != 0 {
-        return Place::Refused(Refusal::Window);
+        return Err(Refusal::Window);
     }
     if windows.len() / write::BYTES != tasks {
-        return Place::Refused(Refusal::Window);
+        return Err(Refusal::Window);
     }
     if tasks <= task {
-        return Place::Refused(Refusal::Task);
+        return Err(Refusal::Task);
     }
-    Place::Inside
+    Ok(())
 }
 
 // No call of the library.
@@ -86,8 +86,8 @@ fn work_of_call(windows: &[u8], tasks: usize, task: usize) -> Work
 {
     let place = find_window(windows, tasks, task);
     match place {
-        Place::Refused(_) => no_work(),
-        Place::Inside => work_of_command(windows, task),
+        Err(_) => no_work(),
+        Ok(()) => work_of_command(windows, task),
     }
 }
 
@@ -100,20 +100,20 @@ fn settle_command(windows: &mut [u8], task: usize) -> WindowAnswer
     let command = write::byte_at(windows, task, write::COMMAND);
     if command == 3 {
         write::write_acknowledged(windows, task);
-        return WindowAnswer::Served;
+        return Ok(());
     }
     if 3 < command {
         write::write_refused(windows, task, Refusal::Window);
-        return WindowAnswer::Refused(Refusal::Window);
+        return Err(Refusal::Window);
     }
     if command != 1 {
-        return WindowAnswer::Served;
+        return Ok(());
     }
     if done_stands(windows, task) {
         write::write_refused(windows, task, Refusal::Unacknowledged);
-        return WindowAnswer::Refused(Refusal::Unacknowledged);
+        return Err(Refusal::Unacknowledged);
     }
-    WindowAnswer::Served
+    Ok(())
 }
 
 // A window call that is settled without the library.
@@ -123,8 +123,8 @@ fn settle(windows: &mut [u8], tasks: usize, task: usize) -> WindowAnswer
 {
     let place = find_window(windows, tasks, task);
     match place {
-        Place::Refused(cause) => WindowAnswer::Refused(cause),
-        Place::Inside => settle_command(windows, task),
+        Err(cause) => Err(cause),
+        Ok(()) => settle_command(windows, task),
     }
 }
 
@@ -135,8 +135,8 @@ fn after_begin(windows: &mut [u8], task: usize, answer: BeginAnswer) -> WindowAn
 {
     write::write_begin(windows, task, answer);
     match answer {
-        BeginAnswer::Begun => WindowAnswer::Served,
-        BeginAnswer::Refused(cause) => WindowAnswer::Refused(cause),
+        Ok(()) => Ok(()),
+        Err(cause) => Err(cause),
     }
 }
 
@@ -147,13 +147,13 @@ fn after_step(windows: &mut [u8], task: usize, answer: StepAnswer) -> WindowAnsw
 {
     write::write_step(windows, task, answer);
     match answer {
-        StepAnswer::Running => WindowAnswer::Served,
+        Ok(Progress::Running) => Ok(()),
         StepAnswer::Ended {
             response: _,
             moved: _,
             steps: _,
-        } => WindowAnswer::Served,
-        StepAnswer::Refused(cause) => WindowAnswer::Refused(cause),
+        } => Ok(()),
+        Err(cause) => Err(cause),
     }
 }
 
@@ -248,12 +248,12 @@ fn line_in(windows: &[u8], task: usize) -> LineAnswer
     ensures { result ≡ line_in windows.now task Place.Inside }
 {
     if write::byte_at(windows, task, write::MASK) % 2 == 1 {
-        return LineAnswer::Down;
+        return Ok(Line::Down);
     }
     if write::byte_at(windows, task, write::INTERRUPT) % 2 == 1 {
-        return LineAnswer::Up;
+        return Ok(Line::Up);
     }
-    LineAnswer::Down
+    Ok(Line::Down)
 }
 
 // The interrupt line of a task.
@@ -263,7 +263,7 @@ pub fn line(windows: &[u8], tasks: usize, task: usize) -> LineAnswer
 {
     let place = find_window(windows, tasks, task);
     match place {
-        Place::Refused(cause) => LineAnswer::Refused(cause),
-        Place::Inside => line_in(windows, task),
+        Err(cause) => Err(cause),
+        Ok(()) => line_in(windows, task),
     }
 }

@@ -103,8 +103,8 @@ pub(crate) fn write_begin(windows: &mut [u8], task: usize, answer: BeginAnswer)
     ensures { windows.new ≡ after_begin windows.old task answer }
 {
     match answer {
-        BeginAnswer::Begun => write_begun(windows, task),
-        BeginAnswer::Refused(cause) => write_refused(windows, task, cause),
+        Ok(()) => write_begun(windows, task),
+        Err(cause) => write_refused(windows, task, cause),
     }
 }
 
@@ -114,12 +114,12 @@ pub(crate) fn write_step(windows: &mut [u8], task: usize, answer: StepAnswer)
     ensures { windows.new ≡ after_step windows.old task answer }
 {
     match answer {
-        StepAnswer::Running => take(windows, task),
+        Ok(Progress::Running) => take(windows, task),
         StepAnswer::Ended {
             response,
             moved,
             steps: _,
         } => write_ended(windows, task, response, moved),
-        StepAnswer::Refused(cause) => write_refused(windows, task, cause),
+        Err(cause) => write_refused(windows, task, cause),
     }
 }
