@@ -6,7 +6,7 @@ use Prim.Native.Nat.{ℕ, ◌≤◌}
 use lib.ListN.{length, set, get_or-eq_default}
 use lib.Seq.{set_out}
 use Rattle.records.specs.declared.record.Task.{Task}
-use Rattle.stepping.specs.declared.answer.Begin.{Begin}
+use Rattle.stepping.specs.Call.{Begin}
 use Rattle.stepping.specs.declared.answer.Step.{Step}
 use Rattle.records.specs.Record.{idle_task}
 use Rattle.stepping.specs.Call.{task_at, begin_task, BeginOutcome, begin_of, step_task, StepOutcome, step_of}

@@ -28,7 +28,7 @@ use Rattle.transition.specs.declared.access.Access.{Access}
 use Rattle.transition.specs.declared.access.Next.{Next}
 use Rattle.transition.specs.declared.access.Next.TheVariants.{Go, Turn, End}
 use Rattle.transition.specs.Transition.{plan_of, used_in_range}
-use Rattle.stepping.specs.declared.answer.Begin.{Begin}
+use Rattle.stepping.specs.Call.{Begin}
 use Rattle.stepping.specs.Step.{touched, cell_in_form, answer_of, TaskOutcome, led_to, served}
 use Rattle.stepping.specs.Call.{refuse_step, touch, step_from, step_task, step_said, begun_task, refuse_begin, begin_from, begin_task, begin_said}
 use Rattle.stepping.specs.Access.{access_of}

@@ -19,16 +19,8 @@ use Rattle.transition.specs.declared.access.Next.{Next}
 use Rattle.stepping.specs.declared.answer.Step.{Step}
 use Rattle.transition.specs.Transition.{plan_of, used_in_range, next_of}
 use Rattle.stepping.specs.Step.{touched, found_of, perform_of, cell_in_form, advance_of, answer_of, TaskOutcome}
-use Rattle.stepping.specs.Call.{refuse_step, step_from}
+use Rattle.stepping.specs.Call.{refuse_step, step_left, step_from}
 use Rattle.stepping.specs.declared.answer.Progress.TheVariants as progress
-
--- The cells, record and answer that a step leaves.
-abbrev pub left : List ℕ → Step → TaskOutcome
-left cells r = record { cells = cells; task = r.task; answer = r.answer }
-
--- What a refused step leaves.
-pub refused : (cells : List ℕ) (t : Task) (reason : Refusal) (r : Step) → r ≡ record { task = t; answer = Err reason } → left cells r ≡ refuse_step cells t reason
-refused cells t reason r e = ap (left cells) e
 
 module _ (file : List ℕ) (shape : Shape) (cells : List ℕ) (n i : ℕ) (t : Task) (f : Phase) where
   -- A record of a known phase, by its form.
@@ -62,8 +54,8 @@ module _ (file : List ℕ) (shape : Shape) (cells : List ℕ) (n i : ℕ) (t : T
       pub accepted : used_in_range file shape t (get_or cells k 0) f ≡ true → (g : Found) (x : Next) (after : List ℕ) (r : Step)
           → (g ≡ found_of (get_or cells (touched a) 0) a) × (after ≡ perform_of cells a)
           → x ≡ next_of file shape i t.priority t f g
-          → r ≡ record { task = advance_of n t x; answer = answer_of t x }
-          → left after r ≡ step_from file shape cells n i t (Ok f)
+          → (r.task ≡ advance_of n t x) × (Ok r.progress ≡ answer_of t x)
+          → step_left after t (Ok r) ≡ step_from file shape cells n i t (Ok f)
       accepted e g x after r found led gave =
           simp (ne_eqb t.phase 0 pending, sym planned, sym place, formed, e)
-          (simp (gave, led, found.0, found.1, sym place))
+          (simp (gave.0, gave.1, led, found.0, found.1, sym place))

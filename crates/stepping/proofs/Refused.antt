@@ -18,7 +18,7 @@ use Rattle.records.specs.declared.phase.Phase.{Phase}
 use Rattle.transition.specs.declared.access.Access.{Access}
 use Rattle.transition.specs.declared.access.Next.{Next}
 use Rattle.transition.specs.declared.access.Next.TheVariants.{Go, Turn, End}
-use Rattle.stepping.specs.declared.answer.Begin.{Begin}
+use Rattle.stepping.specs.Call.{Begin}
 use Rattle.records.specs.Record.{idle_task, read_record}
 use Rattle.transition.specs.Transition.{plan_of, used_in_range}
 use Rattle.stepping.specs.Step.{touched, cell_in_form, answer_of, TaskOutcome, led_to}

@@ -24,7 +24,7 @@ use Rattle.machine.specs.Calls.{Answer, Refused}
 use Rattle.records.specs.declared.record.Task.{Task}
 use Rattle.records.specs.Record.{read_record}
 use Rattle.records.proofs.Forms.{cause_read}
-use Rattle.stepping.specs.declared.answer.Begin.{Begin}
+use Rattle.stepping.specs.Call.{Begin}
 use Rattle.stepping.specs.Step.{TaskOutcome}
 use Rattle.stepping.specs.Call.{start_said, begin_said, step_said, with_row, start_of, admit_start_of, with_cells, filled, begin_from, begin_in, begin_task, step_from, step_in, step_task, admit_of}
 use Rattle.stepping.specs.Statement.{RowRefused, StartRowJudged, BeginRowJudged, StepRowJudged}

@@ -27,7 +27,7 @@ use Rattle.machine.specs.Form.{Formed}
 use Rattle.records.specs.declared.record.Task.{Task}
 use Rattle.records.specs.declared.phase.Phase.TheVariants as phase
 use Rattle.transition.specs.declared.access.Next.{Next}
-use Rattle.stepping.specs.declared.answer.Begin as declared
+use Rattle.stepping.specs.Call as call
 use Rattle.records.specs.Phase.{phase_number}
 use Rattle.records.specs.Record.{idle_task, read_record, RecordFits}
 use Rattle.transition.specs.Transition.{next_of}
@@ -150,7 +150,7 @@ module _ (file : List ℕ) (shape : Shape) (table : ObjectTable file shape) (n :
       unfolding begin_task
       begin_task_lem t = rw admitted
 
-      begin_store : (out : declared.Begin) → begin_task file n i o (task_at (encode_row n c.task) i) ≡ out → serve_of file (Begin i o) (encode_config n c) ≡ record { store = record { cells = encode_cells n c.memory; row = set (encode_row n c.task) i out.task }; answer = begin_said out.answer }
+      begin_store : (out : call.Begin) → begin_task file n i o (task_at (encode_row n c.task) i) ≡ out → serve_of file (Begin i o) (encode_config n c) ≡ record { store = record { cells = encode_cells n c.memory; row = set (encode_row n c.task) i out.task }; answer = begin_said out.answer }
       unfolding begin_of
       begin_store out e = rw (row_length, e)
 

@@ -16,7 +16,7 @@ use Rattle.records.specs.declared.phase.Phase.{Phase}
 use Rattle.records.specs.declared.phase.Phase.TheVariants as phase
 use Rattle.machine.specs.Calls as paper
 use Rattle.transition.specs.declared.access.Access.{Access}
-use Rattle.stepping.specs.declared.answer.Begin.{Begin}
+use Rattle.stepping.specs.declared.answer.Step.{Step}
 use Rattle.records.specs.Phase.{phase_number}
 use Rattle.records.specs.Record.{idle_task, read_record}
 use Rattle.transition.specs.Transition.{plan_of, used_in_range}
@@ -86,6 +86,11 @@ start_of file cells row = filled cells row (admit_start_of file (length cells) (
 
 -- ---- Begin: 1, 2, 3, 5, 7, 8, then 4 on all entries, then 11, 9
 
+-- The record and the answer of a begin for one task.
+pub record Begin : Type 0 where
+  pub task : Task
+  pub answer : Result ⊤ Refusal
+
 abbrev pub refuse_begin : Task → Refusal → Begin
 refuse_begin t c = record { task = t; answer = Err c }
 
@@ -115,6 +120,11 @@ begin_in file n i o t (Ok found) =
     (refuse_begin t cause.Operation))
     (refuse_begin t cause.Task)
 
+-- What the code's answer leaves: the record that it gives or, with a refusal, the record as it was.
+abbrev pub begin_left : Task → Result Task Refusal → Begin
+begin_left t (Ok next) = record { task = next; answer = Ok tt }
+begin_left t (Err c) = refuse_begin t c
+
 -- One task's part: the record t of task i in a row of n.
 unfoldable pub begin_task : List ℕ → (n i o : ℕ) → Task → Begin
 begin_task file n i o t = begin_in file n i o t (admit_of file n)
@@ -142,6 +152,11 @@ step_in file cells n i t (Ok found) =
     cond (eqb (length cells) (n + 1))
     (cond (ltb i n) (step_from file found.shape cells n i t (read_record found.shape n found.ceiling t)) (refuse_step cells t cause.Task))
     (refuse_step cells t cause.Cells)
+
+-- What the code's answer leaves: the record that it gives and what the step came to or, with a refusal, the record as it was.
+abbrev pub step_left : List ℕ → Task → Result Step Refusal → TaskOutcome
+step_left cells t (Ok step) = record { cells = cells; task = step.task; answer = Ok step.progress }
+step_left cells t (Err c) = record { cells = cells; task = t; answer = Err c }
 
 -- One task's part: the record t of task i in a row of n.
 unfoldable pub step_task : List ℕ → List ℕ → (n i : ℕ) → Task → TaskOutcome

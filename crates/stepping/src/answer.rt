@@ -1,16 +1,7 @@
-// What begin and step answer, and what they leave of one task's record.
+// What an accepted step leaves of one task's record, and what it comes to.
 use records::record::Task;
-use refusal::Refusal;
 
-// The record after a begin, and the answer.
-#[derive(Clone, Copy)]
-pub struct Begin {
-    pub task: Task,
-    pub answer: Result<(), Refusal>,
-}
-
-// What an accepted step comes to: the operation runs on, or it has ended with a response, whether it moved the state and the
-// own steps since begin.
+// The operation runs on, or it has ended with a response, whether it moved the state and the own steps since begin.
 #[derive(Clone, Copy)]
 pub enum Progress {
     Running,
@@ -21,9 +12,9 @@ pub enum Progress {
     },
 }
 
-// The record after a step, and the answer.
+// The record after an accepted step, and what the step came to.
 #[derive(Clone, Copy)]
 pub struct Step {
     pub task: Task,
-    pub answer: Result<Progress, Refusal>,
+    pub progress: Progress,
 }

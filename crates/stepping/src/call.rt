@@ -6,9 +6,9 @@ ghost use Rattle.records.specs.Phase.{phase_of, phase_number};
 ghost use Rattle.records.specs.Record.{idle_in_form, read_record};
 ghost use Rattle.transition.specs.Transition.{plan_of};
 ghost use Rattle.stepping.specs.Step.{touched};
-ghost use Rattle.stepping.specs.Call.{with_row, admit_of, admit_start_of, refuse_begin, begun_task, begin_from, begin_in, begin_task, step_from, step_in, step_task};
+ghost use Rattle.stepping.specs.Call.{with_row, admit_of, admit_start_of, begun_task, begin_left, begin_in, begin_task, step_left, step_from, step_in, step_task};
 
-use crate::answer::{Begin, Step};
+use crate::answer::Step;
 use crate::{advance, perform};
 use cells::ceiling;
 use records::phase::Phase;
@@ -57,16 +57,6 @@ pub fn admit_start(file: &[u8], cells: usize, tasks: usize) -> Result<u16, Refus
     Ok(admission.shape.start)
 }
 
-// A begin that is refused leaves the record as it was.
-fn refuse_begin(own: Task, cause: Refusal) -> Begin
-    ensures { result ≡ refuse_begin own cause }
-{
-    Begin {
-        task: own,
-        answer: Err(cause),
-    }
-}
-
 // The first phase's number: a changing operation is announced, a reading one has one step.
 fn first_phase(file: &[u8], shape: Shape, operation: u16) -> u32
     ensures { result ≡ cond (changing file.now shape operation) (phase_number Phase.Announce) (phase_number Phase.ReadOnly) }
@@ -92,75 +82,53 @@ fn begun_task(file: &[u8], shape: Shape, operation: u16, own: Task) -> Task
     }
 }
 
-// Begin for a record in form: it is pending or idle.
-fn begin_from(file: &[u8], shape: Shape, operation: u16, own: Task) -> Begin
-    ensures { result ≡ begin_from file.now shape operation own (Ok Phase.Idle) }
-{
-    if own.phase != 0 {
-        return refuse_begin(own, Refusal::Pending);
-    }
-    Begin {
-        task: begun_task(file, shape, operation, own),
-        answer: Ok(()),
-    }
-}
-
-// Begin for an admitted table.
+// Begin for an admitted table: the record is in form, and idle.
 fn begin_in(
     file: &[u8],
-    shape: Shape,
-    ceiling: u32,
+    admission: Admission,
     tasks: usize,
     task: usize,
     operation: usize,
     own: Task,
-) -> Begin
-    ensures { result ≡ begin_in file.now tasks task operation own (Ok (record { ceiling = ceiling; shape = shape })) }
+) -> Result<Task, Refusal>
+    ensures { begin_left own result ≡ begin_in file.now tasks task operation own (Ok admission) }
 {
+    let shape = admission.shape;
     if task >= tasks {
-        return refuse_begin(own, Refusal::Task);
+        return Err(Refusal::Task);
     }
     if operation >= shape.operations as usize {
-        return refuse_begin(own, Refusal::Operation);
+        return Err(Refusal::Operation);
     }
     let chosen = operation as u16;
     if !table::entries_in_range(file, shape) {
-        return refuse_begin(own, Refusal::NextState);
+        return Err(Refusal::NextState);
     }
-    let read = record::read_record(shape, tasks, ceiling, own);
-    match read {
-        Err(cause) => refuse_begin(own, cause),
-        Ok(_) => begin_from(file, shape, chosen, own),
+    record::read_record(shape, tasks, admission.ceiling, own)?;
+    if own.phase != 0 {
+        return Err(Refusal::Pending);
     }
+    Ok(begun_task(file, shape, chosen, own))
 }
 
-// Begins an operation for one task of a row, by its record; a refused call leaves the record as it was.
+// Begins an operation for one task of a row, by its record: the record that it has then.
 #[tactic(auto, unfolding(crate::specs::Call::begin_task))]
-pub fn begin_task(file: &[u8], tasks: usize, task: usize, operation: usize, own: Task) -> Begin
-    ensures { result ≡ begin_task file.now tasks task operation own }
+pub fn begin_task(
+    file: &[u8],
+    tasks: usize,
+    task: usize,
+    operation: usize,
+    own: Task,
+) -> Result<Task, Refusal>
+    ensures { begin_left own result ≡ begin_task file.now tasks task operation own }
 {
-    let admitted = admit(file, tasks);
-    match admitted {
-        Err(cause) => refuse_begin(own, cause),
-        Ok(Admission { ceiling, shape }) => {
-            begin_in(file, shape, ceiling, tasks, task, operation, own)
-        }
-    }
-}
-
-// A step that is refused leaves the record as it was.
-fn refuse_step(own: Task, cause: Refusal) -> Step
-    ensures { result ≡ record { task = own; answer = Err cause } }
-{
-    Step {
-        task: own,
-        answer: Err(cause),
-    }
+    let admission = admit(file, tasks)?;
+    begin_in(file, admission, tasks, task, operation, own)
 }
 
 // A step for a pending record in form: its access is planned, the touched cell and the used entry are tested, and the
 // access is made.
-#[tactic(auto, using(crate::proofs::Parts::refused, crate::proofs::Parts::cell_refused, crate::proofs::Parts::entry_refused, crate::proofs::Parts::accepted))]
+#[tactic(auto, using(crate::proofs::Parts::cell_refused, crate::proofs::Parts::entry_refused, crate::proofs::Parts::accepted))]
 fn step_from(
     file: &[u8],
     cells: &mut [u64],
@@ -169,9 +137,9 @@ fn step_from(
     task: usize,
     own: Task,
     phase: Phase,
-) -> Step
+) -> Result<Step, Refusal>
     requires { (0 < tasks) × (tasks ≤ 8) × (task < tasks) × (own.priority < tasks) × (own.steps < 1000000) × (touched (plan_of file.now shape task own.priority own phase) < length cells.old) × (own.phase ≡ 0 → ⊥) }
-    ensures { record { cells = cells.exit.now; task = result.task; answer = result.answer } ≡ step_from file.now shape cells.entry.now tasks task own (Ok phase) }
+    ensures { step_left cells.new own result ≡ step_from file.now shape cells.old tasks task own (Ok phase) }
 {
     let place = task as u8;
     let first = own.priority as u8;
@@ -179,14 +147,14 @@ fn step_from(
     let cell = perform::touched_by(access);
     let word = cells[cell];
     if !perform::cell_in_form(shape, tasks, cell, word) {
-        return refuse_step(own, Refusal::Cell);
+        return Err(Refusal::Cell);
     }
     if !entry::used_in_range(file, shape, own, word, phase) {
-        return refuse_step(own, Refusal::NextState);
+        return Err(Refusal::NextState);
     }
     let found = perform::perform(cells, access);
     let next = next::next(file, shape, place, first, own, phase, found);
-    advance::advance(tasks, own, next)
+    Ok(advance::advance(tasks, own, next))
 }
 
 // Why a step of an idle task is refused: it has no operation pending, or its record is out of form.
@@ -201,71 +169,66 @@ fn idle_cause(tasks: usize, own: Task) -> Refusal
 
 // A step for a record of a known phase: its form is tested by its parts, which the compiler takes in here; as one function
 // they would be a call.
-#[tactic(auto, using(crate::proofs::Parts::refused, crate::proofs::Parts::idle_refused, crate::proofs::Parts::form_refused, crate::proofs::Parts::in_form_lem, crate::proofs::Ready::ready), unfolding(records::specs::Record::pending_in_form))]
+#[tactic(auto, using(crate::proofs::Parts::idle_refused, crate::proofs::Parts::form_refused, crate::proofs::Parts::in_form_lem, crate::proofs::Ready::ready), unfolding(records::specs::Record::pending_in_form))]
 fn step_known(
     file: &[u8],
     cells: &mut [u64],
-    shape: Shape,
-    ceiling: u32,
+    admission: Admission,
     tasks: usize,
     task: usize,
     own: Task,
     phase: Phase,
-) -> Step
-    requires { (0 < tasks) × (tasks ≤ 8) × (ceiling ≤ greatest_ceiling) × (task < tasks) × (length cells.old ≡ tasks + 1) × (phase_of own.phase ≡ Ok phase) }
-    ensures { record { cells = cells.exit.now; task = result.task; answer = result.answer } ≡ step_from file.now shape cells.entry.now tasks task own (read_record shape tasks ceiling own) }
+) -> Result<Step, Refusal>
+    requires { (0 < tasks) × (tasks ≤ 8) × (admission.ceiling ≤ greatest_ceiling) × (task < tasks) × (length cells.old ≡ tasks + 1) × (phase_of own.phase ≡ Ok phase) }
+    ensures { step_left cells.new own result ≡ step_from file.now admission.shape cells.old tasks task own (read_record admission.shape tasks admission.ceiling own) }
 {
+    let shape = admission.shape;
     if own.phase == 0 {
-        return refuse_step(own, idle_cause(tasks, own));
+        return Err(idle_cause(tasks, own));
     }
-    if !record::numbers_in_form(shape, tasks, ceiling, own) {
-        return refuse_step(own, Refusal::Record);
+    if !record::numbers_in_form(shape, tasks, admission.ceiling, own) {
+        return Err(Refusal::Record);
     }
     if !record::words_in_form(shape, tasks, own) {
-        return refuse_step(own, Refusal::Record);
+        return Err(Refusal::Record);
     }
     step_from(file, cells, shape, tasks, task, own, phase)
 }
 
 // A step for an admitted table.
-#[tactic(auto, using(crate::proofs::Parts::refused), unfolding(records::specs::Record::read_record))]
+#[tactic(auto, unfolding(records::specs::Record::read_record))]
 fn step_in(
     file: &[u8],
     cells: &mut [u64],
-    shape: Shape,
-    ceiling: u32,
+    admission: Admission,
     tasks: usize,
     task: usize,
     own: Task,
-) -> Step
-    requires { (0 < tasks) × (tasks ≤ 8) × (ceiling ≤ greatest_ceiling) }
-    ensures { record { cells = cells.exit.now; task = result.task; answer = result.answer } ≡ step_in file.now cells.entry.now tasks task own (Ok (record { ceiling = ceiling; shape = shape })) }
+) -> Result<Step, Refusal>
+    requires { (0 < tasks) × (tasks ≤ 8) × (admission.ceiling ≤ greatest_ceiling) }
+    ensures { step_left cells.new own result ≡ step_in file.now cells.old tasks task own (Ok admission) }
 {
     if cells.len() != tasks + 1 {
-        return refuse_step(own, Refusal::Cells);
+        return Err(Refusal::Cells);
     }
     if tasks <= task {
-        return refuse_step(own, Refusal::Task);
+        return Err(Refusal::Task);
     }
-    let read = phase::read_phase(own.phase);
-    match read {
-        Err(cause) => refuse_step(own, cause),
-        Ok(phase) => {
-            step_known(file, cells, shape, ceiling, tasks, task, own, phase)
-        }
-    }
+    let phase = phase::read_phase(own.phase)?;
+    step_known(file, cells, admission, tasks, task, own, phase)
 }
 
-// Makes one step for one task of a row, by its record; a refused call leaves record and cells as they were.
-#[tactic(auto, using(crate::proofs::Admission::admit_ranges, crate::proofs::Parts::refused), unfolding(crate::specs::Call::step_task))]
-pub fn step_task(file: &[u8], cells: &mut [u64], tasks: usize, task: usize, own: Task) -> Step
-    ensures { record { cells = cells.exit.now; task = result.task; answer = result.answer } ≡ step_task file.now cells.entry.now tasks task own }
+// Makes one step for one task of a row, by its record; a refused call leaves the cells as they were.
+#[tactic(auto, using(crate::proofs::Admission::admit_ranges), unfolding(crate::specs::Call::step_task))]
+pub fn step_task(
+    file: &[u8],
+    cells: &mut [u64],
+    tasks: usize,
+    task: usize,
+    own: Task,
+) -> Result<Step, Refusal>
+    ensures { step_left cells.new own result ≡ step_task file.now cells.old tasks task own }
 {
-    let admitted = admit(file, tasks);
-    match admitted {
-        Err(cause) => refuse_step(own, cause),
-        Ok(Admission { ceiling, shape }) => {
-            step_in(file, cells, shape, ceiling, tasks, task, own)
-        }
-    }
+    let admission = admit(file, tasks)?;
+    step_in(file, cells, admission, tasks, task, own)
 }

@@ -6,7 +6,7 @@ use Prim.Native.Nat.{ℕ}
 use native.Mathlib.Omega.{arith}
 use lib.ListN.{length}
 use Rattle.records.specs.declared.record.Task.{Task}
-use Rattle.stepping.specs.declared.answer.Begin.{Begin}
+use Rattle.stepping.specs.Call.{Begin}
 use Rattle.stepping.specs.Step.{TaskOutcome}
 use Rattle.stepping.specs.Call.{begin_task, step_task, task_at}
 use Rattle.stepping.proofs.Theorem.{begins_by_record, steps_by_record}

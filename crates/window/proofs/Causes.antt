@@ -23,7 +23,7 @@ use Rattle.machine.specs.Calls.{Refused}
 use Rattle.records.specs.declared.record.Task.{Task}
 use Rattle.records.specs.Record.{read_record}
 use Rattle.records.proofs.Forms.{cause_read}
-use Rattle.stepping.specs.declared.answer.Begin.{Begin}
+use Rattle.stepping.specs.Call.{Begin}
 use Rattle.stepping.specs.Step.{TaskOutcome}
 use Rattle.stepping.specs.Call.{begin_said, step_said, with_ceiling, with_row, admit_of, refuse_begin, begin_from, begin_in, begin_task, refuse_step, step_from, step_in, step_task}
 use Rattle.stepping.proofs.Judged.{known_says}
