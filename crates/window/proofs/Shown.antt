@@ -1,5 +1,5 @@
 -- What the window shows after a call: the named bits and bytes, by the command and the answers.
-use Rattle.std.specs.Prelude.{Result, Ok, Err}
+use Rattle.std.specs.Prelude.{⊤, Result, Ok, Err}
 use mathlib.Core.Path.{◌≡◌, refl, sym, ap, ◌∙◌}
 use mathlib.Core.Bool.{Bool, true, false}
 use mathlib.Core.List.{List}
@@ -74,7 +74,7 @@ module _ (file cells : List ℕ) (row : List Task) (windows : List ℕ) (t : ℕ
   refuses_none : (b c : Refusal) → (HasWindow windows (length row) t → ⊥) → RefusedWindow file cells row windows t c (still file cells row windows t windows (Err b))
   refuses_none b c none = record { cells_left = refl; row_left = refl; no_window = λ _. refl; marked = λ has. absurd (none has) }
 
-  refuses_command : (b c : Refusal) → HasWindow windows (length row) t → Err b ≡ Err c → RefusedWindow file cells row windows t c (still file cells row windows t (refused_in windows t b) (Err b))
+  refuses_command : (b c : Refusal) → HasWindow windows (length row) t → ◌≡◌ {A = Result ⊤ Refusal} (Err b) (Err c) → RefusedWindow file cells row windows t c (still file cells row windows t (refused_in windows t b) (Err b))
   refuses_command b c has e =
       let same : b ≡ c = cc in
       record { cells_left = refl; row_left = refl; no_window = λ none. absurd (none has); marked = λ _. rw (← same) (shows_refused windows t (inside windows (length row) t has) b) }

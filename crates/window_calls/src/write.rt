@@ -5,7 +5,7 @@ ghost use Rattle.window.specs.Written.{taken, refused_in, begun_in, ended_in, ac
 
 use crate::status;
 use refusal::Refusal;
-use stepping::answer::{BeginAnswer, StepAnswer};
+use stepping::answer::Progress;
 
 // The bytes of a window that are read or written.
 pub(crate) const OPERATION: usize = 0;
@@ -98,7 +98,7 @@ pub(crate) fn write_acknowledged(windows: &mut [u8], task: usize)
 }
 
 // A begin, by its answer.
-pub(crate) fn write_begin(windows: &mut [u8], task: usize, answer: BeginAnswer)
+pub(crate) fn write_begin(windows: &mut [u8], task: usize, answer: Result<(), Refusal>)
     requires { 8 * task + 7 < length windows.old }
     ensures { windows.new ≡ after_begin windows.old task answer }
 {
@@ -109,17 +109,17 @@ pub(crate) fn write_begin(windows: &mut [u8], task: usize, answer: BeginAnswer)
 }
 
 // A step, by its answer.
-pub(crate) fn write_step(windows: &mut [u8], task: usize, answer: StepAnswer)
+pub(crate) fn write_step(windows: &mut [u8], task: usize, answer: Result<Progress, Refusal>)
     requires { 8 * task + 7 < length windows.old }
     ensures { windows.new ≡ after_step windows.old task answer }
 {
     match answer {
         Ok(Progress::Running) => take(windows, task),
-        StepAnswer::Ended {
+        Ok(Progress::Ended {
             response,
             moved,
             steps: _,
-        } => write_ended(windows, task, response, moved),
+        }) => write_ended(windows, task, response, moved),
         Err(cause) => write_refused(windows, task, cause),
     }
 }
