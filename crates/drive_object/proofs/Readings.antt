@@ -32,7 +32,8 @@ use Rattle.game.specs.declared.ForceAnswer.TheVariants as force
 use Rattle.game.specs.Force.{force_of, force_said, is_reached}
 use Rattle.game.proofs.Theorem.{operation_below}
 use Rattle.drive_object.specs.Word.{word_of, ended_flags, refusal_in, flags_in, first_flag_in, second_flag_in, low_in, high_in, value_at, refused_word, check_word, start_word, answer_word, ceiling_word, window_word, line_word, owner_word, written_word, force_word}
-use Rattle.window.specs.declared.Line.TheVariants as line
+use Rattle.window.specs.declared.LineLevel.{LineLevel}
+use Rattle.window.specs.declared.LineLevel.TheVariants as line
 
 -- The four parts of a word, each as wide as its bytes.
 pub parts_read : (c f l h : ℕ) → c < 256 → f < 256 → l < 65536
@@ -80,7 +81,7 @@ pub window_read : (a : Result ⊤ Refusal) → let w = window_word a in (refusal
 window_read (Ok tt) = (refl, refl, refl, refl)
 window_read (Err c) = refused_read c
 
-pub line_read : (a : Result Line Refusal) → let w = line_word a in (refusal_in w ≡ (line_said a).number) × (flags_in w ≡ 0) × (low_in w ≡ value_at (line_said a) 0) × (high_in w ≡ 0)
+pub line_read : (a : Result LineLevel Refusal) → let w = line_word a in (refusal_in w ≡ (line_said a).number) × (flags_in w ≡ 0) × (low_in w ≡ value_at (line_said a) 0) × (high_in w ≡ 0)
 line_read (Ok line.Up) = parts_read 0 0 1 0 (omega arith) (omega arith) (omega arith)
 line_read (Ok line.Down) = (refl, refl, refl, refl)
 line_read (Err c) = refused_read c

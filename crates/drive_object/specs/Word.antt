@@ -17,7 +17,7 @@ use Rattle.game.specs.declared.ForceAnswer.TheVariants as force
 use Rattle.game.specs.Force.{force_said}
 use Rattle.table.specs.declared.Shape.{Shape}
 use Rattle.stepping.specs.declared.answer.Progress.{Progress}
-use Rattle.window.specs.declared.Line.{Line}
+use Rattle.window.specs.declared.LineLevel.{LineLevel}
 
 -- Byte 0 of a word is the number of the refusal, byte 1 has flags, bytes 2 and 3 are the low number, bytes 4 to 7 the high one.
 abbrev pub word_of : (refusal flags low high : ℕ) → ℕ
@@ -89,7 +89,7 @@ abbrev pub window_word : Result ⊤ Refusal → ℕ
 window_word a = word_of (window_said a).number 0 0 0
 
 -- A line that is up has 1 as the low number.
-abbrev pub line_word : Result Line Refusal → ℕ
+abbrev pub line_word : Result LineLevel Refusal → ℕ
 line_word a = word_of (line_said a).number 0 (value_at (line_said a) 0) 0
 
 -- A ceiling is the high number.

@@ -20,7 +20,7 @@ use refusal::Refusal;
 use ring_desk::OwnerAnswer;
 use stepping::answer::Progress;
 use table::Shape;
-use window::Line;
+use window::LineLevel;
 
 // The word of a refusal's number, of flags, and of two numbers.
 fn word(cause: u8, flags: u8, low: u16, high: u32) -> u64
@@ -109,12 +109,12 @@ fn window_word(answer: Result<(), Refusal>) -> u64
 }
 
 // The word of an interrupt line.
-fn line_word(answer: Result<Line, Refusal>) -> u64
+fn line_word(answer: Result<LineLevel, Refusal>) -> u64
     ensures { result ≡ line_word answer }
 {
     match answer {
-        Ok(Line::Up) => word(0, 0, 1, 0),
-        Ok(Line::Down) => word(0, 0, 0, 0),
+        Ok(LineLevel::Up) => word(0, 0, 1, 0),
+        Ok(LineLevel::Down) => word(0, 0, 0, 0),
         Err(cause) => refused_word(cause),
     }
 }

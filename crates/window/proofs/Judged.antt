@@ -25,7 +25,7 @@ use Rattle.window.proofs.Commands.{Placed, placed, place_unfit, place_past, Comm
 use Rattle.window.proofs.Causes.{Own, begin_own, step_own}
 use Rattle.window.proofs.Cases.{Case, unfit, past, nothing, unknown, acknowledged, unacknowledged, begun, begin_refused, running, ended, step_refused, cases}
 use Rattle.stepping.specs.declared.answer.Progress.TheVariants as progress
-use Rattle.window.specs.declared.Line.TheVariants as line
+use Rattle.window.specs.declared.LineLevel.TheVariants as line
 
 -- ---- The numbers
 

@@ -17,7 +17,7 @@ use Rattle.window.specs.Serve.{window_said, asked_of, WindowOutcome, window_of}
 use Rattle.window.specs.Line.{line_of, line_said}
 use Rattle.window.specs.Events.{WindowEvent, Written, Served, Direct, WindowStore, opened, happen, after, call_by, call_at, calls_of}
 use Rattle.window.specs.Console.{AllLeave, reading_of, without_count, is_pending, last_ended, notes_of, Since, IsEnding, IsRefusing, last_refused}
-use Rattle.window.specs.declared.Line.{Line}
+use Rattle.window.specs.declared.LineLevel.{LineLevel}
 use Rattle.stepping.specs.declared.answer.Progress.TheVariants as progress
 
 -- ---- The bytes and the bits by their numbers
@@ -51,7 +51,7 @@ module _ (windows : List ℕ) (n t : ℕ) where
   NoneBy = (call_by t (asked_of windows n t) ≡ []) ↔ (HasWindow → (byte_at windows t 1 ≢ 2) × (byte_at windows t 1 ≡ 1 → (status_at windows t).done ≡ true))
 
   -- The line's answer: 18, then 7; it is up exactly if bit 0 of byte 5 is 1 and bit 0 of byte 6 is 0.
-  pub record LineSays (a : Result Line Refusal) : Type 0 where
+  pub record LineSays (a : Result LineLevel Refusal) : Type 0 where
     pub unfit : (line_said a ≡ refused_by 18) ↔ (length windows ≢ 8 * n)
     pub past : (line_said a ≡ refused_by 7) ↔ ((length windows ≡ 8 * n) × (n ≤ t))
     pub up : (line_said a ≡ accepted (1 ∷ [])) ↔ (HasWindow × (interrupt_at windows t ≡ true) × (mask_at windows t ≡ false))

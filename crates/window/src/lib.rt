@@ -4,7 +4,7 @@
 
 // Whether an interrupt line is up.
 #[derive(Clone, Copy)]
-pub enum Line {
+pub enum LineLevel {
     Up,
     Down,
 }

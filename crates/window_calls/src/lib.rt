@@ -13,7 +13,7 @@ ghost use Rattle.window.specs.Line.{line_in, line_of};
 use records::record::Task;
 use refusal::Refusal;
 use stepping::answer::Progress;
-use window::{Line, Work};
+use window::{LineLevel, Work};
 
 mod status;
 mod write;
@@ -239,22 +239,22 @@ pub fn serve_window(
 }
 
 // The line of a task that has a window.
-fn line_in(windows: &[u8], task: usize) -> Result<Line, Refusal>
+fn line_in(windows: &[u8], task: usize) -> Result<LineLevel, Refusal>
     requires { 8 * task + 7 < length windows.now }
     ensures { result ≡ line_in windows.now task (Ok tt) }
 {
     if write::byte_at(windows, task, write::MASK) % 2 == 1 {
-        return Ok(Line::Down);
+        return Ok(LineLevel::Down);
     }
     if write::byte_at(windows, task, write::INTERRUPT) % 2 == 1 {
-        return Ok(Line::Up);
+        return Ok(LineLevel::Up);
     }
-    Ok(Line::Down)
+    Ok(LineLevel::Down)
 }
 
 // The interrupt line of a task.
 #[tactic(auto, using(window::proofs::Commands::line_at))]
-pub fn line(windows: &[u8], tasks: usize, task: usize) -> Result<Line, Refusal>
+pub fn line(windows: &[u8], tasks: usize, task: usize) -> Result<LineLevel, Refusal>
     ensures { result ≡ line_of windows.now tasks task }
 {
     let place = find_window(windows, tasks, task);
