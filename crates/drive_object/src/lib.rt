@@ -41,7 +41,7 @@ fn ended_flags(moved: bool) -> u8
 fn refused_word(cause: Refusal) -> u64
     ensures { result ≡ refused_word cause }
 {
-    word(refusal::number(cause), 0, 0, 0)
+    word(u8::from(cause), 0, 0, 0)
 }
 
 // Two numbers in the halves of one.
