@@ -61,11 +61,9 @@ fn meet_next(
 {
     let operations = shape.operations;
     let mut met = count;
-    let mut operation: u16 = 0;
-    while operation < operations {
+    for operation in 0..operations {
         let entry = table::read_entry(file, shape, state, operation);
         met = meet_state(order, number, met, entry.next);
-        operation += 1;
     }
     met
 }
@@ -87,15 +85,10 @@ fn meet_all(file: &[u8], shape: Shape, order: &mut [u16], number: &mut [u16]) ->
 }
 
 // Sets all words to 0.
-#[tactic(auto, using(laws::proofs::Lists::filled_more, laws::proofs::Lists::filled_all))]
 fn clear(words: &mut [u16])
     ensures { words.new ≡ replicate (length words.old) 0 }
 {
-    let mut at = 0;
-    while at < words.len() {
-        words[at] = 0;
-        at += 1;
-    }
+    words.fill(0);
 }
 
 // The states of a table that can be reached, in arrays of 256 words that may hold anything before. Answers how many they are;
@@ -135,13 +128,10 @@ pub fn reach(file: &[u8], shape: Shape) -> Reached
 fn moves_some(file: &[u8], shape: Shape, operation: u16) -> bool
     ensures { result ≡ any_below shape.states (λ state. moves file.now shape state operation) }
 {
-    let states = shape.states;
-    let mut state: u16 = 0;
-    while state < states {
+    for state in 0..shape.states {
         if table::moves_state(file, shape, state, operation) {
             return true;
         }
-        state += 1;
     }
     false
 }
@@ -162,13 +152,10 @@ fn moves_met(file: &[u8], shape: Shape, order: &[u16], count: u16, operation: u1
     requires { count ≤ length order.now }
     ensures { result ≡ any_below count (λ place. ltb (get_or order.now place 0) shape.states && moves file.now shape (get_or order.now place 0) operation) }
 {
-    let mut place: u16 = 0;
-    while place < count {
-        let met = order[place as usize];
-        if moves_known(file, shape, met, operation) {
+    for place in 0..count {
+        if moves_known(file, shape, order[place as usize], operation) {
             return true;
         }
-        place += 1;
     }
     false
 }

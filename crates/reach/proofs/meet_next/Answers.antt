@@ -9,7 +9,7 @@ use Rattle.reach.proofs.meet_next.Goals as goal
 
 pub meet_state-met-requires : goal.meet_state-met-requires
 meet_state-met-requires c =
-    keeps_kept c.loop-operation.invariant.1 (next_distinct c.args.file.now c.args.shape c.args.state _ _ c.requires.distinct)
+    keeps_kept c.loop-operation.invariant (next_distinct c.args.file.now c.args.shape c.args.state _ _ c.requires.distinct)
 
 pub loop-operation-preserved : goal.loop-operation-preserved
 loop-operation-preserved c =
@@ -17,6 +17,6 @@ loop-operation-preserved c =
     let l = c.loop-operation in
     let next = ap (λ (e : Entry). e.next) c.read_entry-entry.ensures in
     let met =
-    ap (λ (x : List ℕ). meet x (next_of a.file.now a.shape a.state l.operation)) (sym (list_kept l.invariant.1))
+    ap (λ (x : List ℕ). meet x (next_of a.file.now a.shape a.state l.operation)) (sym (list_kept l.invariant))
     ∙ ap (meet (take l.met l.order)) (sym next) in
-    (omega arith, keeps_same c.meet_state-met.ensures (rw add-one (meet_next_suc a.file.now a.shape a.state l.operation _ ∙ met)))
+    keeps_same c.meet_state-met.ensures (rw add-one (meet_next_suc a.file.now a.shape a.state l.operation _ ∙ met))

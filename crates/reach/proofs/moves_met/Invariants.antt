@@ -1,4 +1,4 @@
-use Prim.Native.Nat.{ℕ, ◌≤◌, ◌<◌, ◌-◌}
+use Prim.Native.Nat.{ℕ, ◌<◌}
 use mathlib.Core.Path.{◌≡◌}
 use mathlib.Core.Bool.{false, ◌&&◌}
 use lib.Dec.{ltb}
@@ -8,7 +8,4 @@ use Rattle.reach.proofs.moves_met.Given as goal
 
 abbrev pub invariant-loop-place : goal.invariant-loop-place
 invariant-loop-place l =
-    (l.place ≤ l.count) × ((k : ℕ) → k < l.place → (ltb (get_or l.order k 0) l.shape.states && moves l.file l.shape (get_or l.order k 0) l.operation) ≡ false)
-
-abbrev pub decreases-loop-place : goal.decreases-loop-place
-decreases-loop-place l = l.count - l.place
+    (k : ℕ) → k < l.place → (ltb (get_or l.order k 0) l.shape.states && moves l.file l.shape (get_or l.order k 0) l.operation) ≡ false

@@ -1,11 +1,8 @@
-use Prim.Native.Nat.{ℕ, ◌≤◌, ◌<◌, ◌-◌}
+use Prim.Native.Nat.{ℕ, ◌<◌}
 use mathlib.Core.Path.{◌≡◌}
 use mathlib.Core.Bool.{false}
 use Rattle.table.specs.Entries.{moves}
 use Rattle.reach.proofs.moves_some.Given as goal
 
 abbrev pub invariant-loop-state : goal.invariant-loop-state
-invariant-loop-state l = (l.state ≤ l.states) × ((k : ℕ) → k < l.state → moves l.file l.shape k l.operation ≡ false)
-
-abbrev pub decreases-loop-state : goal.decreases-loop-state
-decreases-loop-state l = l.states - l.state
+invariant-loop-state l = (k : ℕ) → k < l.state → moves l.file l.shape k l.operation ≡ false
