@@ -16,87 +16,68 @@ use table::{Checked, Entry, Shape};
 // The bytes of an entry.
 const ENTRY_BYTES: u32 = 2;
 
-// The entry of a new number and an operation: the next state by its new number.
-#[tactic(auto, using(crate::proofs::Arrays::read_some, crate::proofs::Arrays::read_renumbered))]
-fn entry_at(
-    file: &[u8],
+// An accepted table, and the arrays of its order: what the writer works with.
+#[derive(Clone, Copy)]
+struct Numbering<'a> {
+    file: &'a [u8],
     shape: Shape,
-    order: &[u16],
-    number: &[u16],
-    place: u16,
-    operation: u16,
-) -> Entry
-    requires { Numbered file.now shape order.now number.now × (place < length (order_of file.now shape)) × (operation < shape.operations) }
-    ensures { result ≡ renumbered_entry file.now shape (order_of file.now shape) place operation }
-{
-    let entry = table::read_entry(file, shape, order[place as usize], operation);
-    let next = entry.next as usize;
-    Entry {
-        next: number[next] - 1,
-        response: entry.response,
-    }
+    // The states by new number.
+    order: &'a [u16],
+    // The new number of a state and one more.
+    number: &'a [u16],
+    ghost numbered: { Numbered file.now shape order.now number.now },
 }
 
-// Writes the entries of a new number at a place of the room.
-#[tactic(auto, using(laws::proofs::Lists::sets_then, table_writer::proofs::ReadsBack::state_length), unfolding(laws::specs::Joined::joined))]
-fn write_state(
-    room: &mut [u8],
-    at: u32,
-    file: &[u8],
-    shape: Shape,
-    order: &[u16],
-    number: &[u16],
-    place: u16,
-)
-    requires { Numbered file.now shape order.now number.now × (place < length (order_of file.now shape)) × (at ≤ 16384) }
-    ensures { room.new ≡ sets room.old at (state_bytes shape.operations (renumbered_entry file.now shape (order_of file.now shape) place)) }
-{
-    let operations = shape.operations;
-    let mut operation: u16 = 0;
-    while operation < operations {
-        let entry = entry_at(file, shape, order, number, place, operation);
-        table_writer::write_entry(room, at + ENTRY_BYTES * operation as u32, entry);
-        operation += 1;
+impl Numbering<'_> {
+    // The entry of a new number and an operation: the next state by its new number.
+    #[tactic(auto, using(crate::proofs::Arrays::read_some, crate::proofs::Arrays::read_renumbered))]
+    fn entry_at(&self, place: u16, operation: u16) -> Entry
+        requires { (place < length (order_of self.now.file.now self.now.shape)) × (operation < self.now.shape.operations) }
+        ensures { result ≡ renumbered_entry self.now.file.now self.now.shape (order_of self.now.file.now self.now.shape) place operation }
+    {
+        let entry = table::read_entry(self.file, self.shape, self.order[place as usize], operation);
+        let next = entry.next as usize;
+        Entry {
+            next: self.number[next] - 1,
+            response: entry.response,
+        }
     }
-}
 
-// Writes the entries of all new numbers at the room's start.
-#[tactic(auto, using(laws::proofs::Lists::sets_then, table_writer::proofs::ReadsBack::entries_length), unfolding(laws::specs::Joined::joined))]
-fn write_states(
-    room: &mut [u8],
-    file: &[u8],
-    shape: Shape,
-    order: &[u16],
-    number: &[u16],
-    count: u16,
-)
-    requires { Numbered file.now shape order.now number.now × (count ≡ length (order_of file.now shape)) }
-    ensures { room.new ≡ sets room.old 0 (entries_of count shape.operations (renumbered_entry file.now shape (order_of file.now shape))) }
-{
-    let step = ENTRY_BYTES * shape.operations as u32;
-    let mut place: u16 = 0;
-    while place < count {
-        write_state(room, step * place as u32, file, shape, order, number, place);
-        place += 1;
+    // Writes the entries of a new number at a place of the room.
+    #[tactic(auto, using(laws::proofs::Lists::sets_then, table_writer::proofs::ReadsBack::state_length), unfolding(laws::specs::Joined::joined))]
+    fn write_state(&self, room: &mut [u8], at: u32, place: u16)
+        requires { (place < length (order_of self.now.file.now self.now.shape)) × (at ≤ 16384) }
+        ensures { room.new ≡ sets room.old at (state_bytes self.now.shape.operations (renumbered_entry self.now.file.now self.now.shape (order_of self.now.file.now self.now.shape) place)) }
+    {
+        let operations = self.shape.operations;
+        for operation in 0..operations {
+            let entry = self.entry_at(place, operation);
+            table_writer::write_entry(room, at + ENTRY_BYTES * u32::from(operation), entry);
+        }
     }
-}
 
-// Writes the file at the room's start.
-#[tactic(auto, using(laws::proofs::Lists::sets_then, table_writer::proofs::ReadsBack::entries_length), unfolding(crate::specs::Canonical::renumbered, table_writer::specs::Written::file_of))]
-fn write_file(
-    room: &mut [u8],
-    file: &[u8],
-    shape: Shape,
-    order: &[u16],
-    number: &[u16],
-    written: Shape,
-)
-    requires { Numbered file.now shape order.now number.now × (written ≡ renumbered_shape shape (order_of file.now shape)) }
-    ensures { room.new ≡ sets room.old 0 (renumbered file.now shape (order_of file.now shape)) }
-{
-    write_states(room, file, shape, order, number, written.states);
-    let end = ENTRY_BYTES * written.states as u32 * written.operations as u32;
-    table_writer::write_trailer(room, end, written);
+    // Writes the entries of all new numbers at the room's start.
+    #[tactic(auto, using(laws::proofs::Lists::sets_then, table_writer::proofs::ReadsBack::entries_length), unfolding(laws::specs::Joined::joined))]
+    fn write_states(&self, room: &mut [u8], count: u16)
+        requires { count ≡ length (order_of self.now.file.now self.now.shape) }
+        ensures { room.new ≡ sets room.old 0 (entries_of count self.now.shape.operations (renumbered_entry self.now.file.now self.now.shape (order_of self.now.file.now self.now.shape))) }
+    {
+        let step = ENTRY_BYTES * u32::from(self.shape.operations);
+        for place in 0..count {
+            self.write_state(room, step * u32::from(place), place);
+        }
+    }
+
+    // Writes the file at the room's start.
+    #[tactic(auto, using(laws::proofs::Lists::sets_then, table_writer::proofs::ReadsBack::entries_length), unfolding(crate::specs::Canonical::renumbered, table_writer::specs::Written::file_of))]
+    fn write_file(&self, room: &mut [u8], written: Shape)
+        requires { written ≡ renumbered_shape self.now.shape (order_of self.now.file.now self.now.shape) }
+        ensures { room.new ≡ sets room.old 0 (renumbered self.now.file.now self.now.shape (order_of self.now.file.now self.now.shape)) }
+    {
+        self.write_states(room, written.states);
+        let end = ENTRY_BYTES * u32::from(written.states) * u32::from(written.operations);
+        table_writer::write_trailer(room, end, written);
+    }
 }
 
 // Writes the file of an accepted table at the room's start, and answers its length in bytes.
@@ -118,7 +99,13 @@ fn write_accepted(file: &[u8], shape: Shape, room: &mut [u8]) -> Written
     if room.len() < length {
         return Written::Refused(Refusal::Room);
     }
-    write_file(room, file, shape, &order, &number, written);
+    let numbering = Numbering {
+        file,
+        shape,
+        order: &order,
+        number: &number,
+    };
+    numbering.write_file(room, written);
     Written::Length(length as u32)
 }
 
