@@ -25,10 +25,25 @@ struct Numbering<'a> {
     order: &'a [u16],
     // The new number of a state and one more.
     number: &'a [u16],
+    // How many states have one.
+    count: u16,
     ghost numbered: { Numbered file.now shape order.now number.now },
+    ghost counted: { count ≡ length (order_of file.now shape) },
 }
 
 impl Numbering<'_> {
+    // The shape of the file that is written.
+    fn written(&self) -> Shape
+        ensures { result ≡ renumbered_shape self.now.shape (order_of self.now.file.now self.now.shape) }
+    {
+        Shape {
+            offset: 0,
+            states: self.count,
+            operations: self.shape.operations,
+            start: 0,
+        }
+    }
+
     // The entry of a new number and an operation: the next state by its new number.
     #[tactic(auto, using(crate::proofs::Arrays::read_some, crate::proofs::Arrays::read_renumbered))]
     fn entry_at(&self, place: u16, operation: u16) -> Entry
@@ -58,11 +73,11 @@ impl Numbering<'_> {
 
     // Writes the entries of all new numbers at the room's start.
     #[tactic(auto, using(laws::proofs::Lists::sets_then, table_writer::proofs::ReadsBack::entries_length), unfolding(laws::specs::Joined::joined))]
-    fn write_states(&self, room: &mut [u8], count: u16)
-        requires { count ≡ length (order_of self.now.file.now self.now.shape) }
-        ensures { room.new ≡ sets room.old 0 (entries_of count self.now.shape.operations (renumbered_entry self.now.file.now self.now.shape (order_of self.now.file.now self.now.shape))) }
+    fn write_states(&self, room: &mut [u8])
+        ensures { room.new ≡ sets room.old 0 (entries_of self.now.count self.now.shape.operations (renumbered_entry self.now.file.now self.now.shape (order_of self.now.file.now self.now.shape))) }
     {
         let step = ENTRY_BYTES * u32::from(self.shape.operations);
+        let count = self.count;
         for place in 0..count {
             self.write_state(room, step * u32::from(place), place);
         }
@@ -70,11 +85,11 @@ impl Numbering<'_> {
 
     // Writes the file at the room's start.
     #[tactic(auto, using(laws::proofs::Lists::sets_then, table_writer::proofs::ReadsBack::entries_length), unfolding(crate::specs::Canonical::renumbered, table_writer::specs::Written::file_of))]
-    fn write_file(&self, room: &mut [u8], written: Shape)
-        requires { written ≡ renumbered_shape self.now.shape (order_of self.now.file.now self.now.shape) }
+    fn write_file(&self, room: &mut [u8])
         ensures { room.new ≡ sets room.old 0 (renumbered self.now.file.now self.now.shape (order_of self.now.file.now self.now.shape)) }
     {
-        self.write_states(room, written.states);
+        self.write_states(room);
+        let written = self.written();
         let end = ENTRY_BYTES * u32::from(written.states) * u32::from(written.operations);
         table_writer::write_trailer(room, end, written);
     }
@@ -89,23 +104,18 @@ fn write_accepted(file: &[u8], shape: Shape, room: &mut [u8]) -> Written
     let mut order = [0; 256];
     let mut number = [0; 256];
     let count = reach::reach_into(file, shape, &mut order, &mut number);
-    let written = Shape {
-        offset: 0,
-        states: count,
-        operations: shape.operations,
-        start: 0,
-    };
-    let length = table::file_length(written);
-    if room.len() < length {
-        return Written::Refused(Refusal::Room);
-    }
     let numbering = Numbering {
         file,
         shape,
         order: &order,
         number: &number,
+        count,
     };
-    numbering.write_file(room, written);
+    let length = table::file_length(numbering.written());
+    if room.len() < length {
+        return Written::Refused(Refusal::Room);
+    }
+    numbering.write_file(room);
     Written::Length(length as u32)
 }
 

@@ -16,12 +16,12 @@ place_small operations place h l = let most : 2 * operations * place ≤ 64 * pl
 pub overflow_mul-step-in-loop-place : goal.overflow_mul-step-in-loop-place
 overflow_mul-step-in-loop-place c =
     let n = c.args.self.now.numbered in
-    omega (arith, place_small c.from-step.result c.from.result (omega (arith, c.from-step.ensures, few_operations n)) (omega (arith, c.from.ensures, c.requires, few n)))
+    omega (arith, place_small c.from-step.result c.from.result (omega (arith, c.from-step.ensures, few_operations n)) (omega (arith, c.from.ensures, c.args.self.now.counted, few n)))
 
 pub write_state-requires : goal.write_state-requires
 write_state-requires c =
     let n = c.args.self.now.numbered in
-    (omega (arith, c.requires), place_small c.from-step.result c.from.result (omega (arith, c.from-step.ensures, few_operations n)) (omega (arith, c.from.ensures, c.requires, few n)))
+    (omega (arith, c.args.self.now.counted), place_small c.from-step.result c.from.result (omega (arith, c.from-step.ensures, few_operations n)) (omega (arith, c.from.ensures, c.args.self.now.counted, few n)))
 
 pub loop-place-preserved : goal.loop-place-preserved
 unfolding joined
