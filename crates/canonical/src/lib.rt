@@ -64,8 +64,7 @@ impl Numbering<'_> {
         requires { (place < length (order_of self.now.file.now self.now.shape)) × (at ≤ 16384) }
         ensures { room.new ≡ sets room.old at (state_bytes self.now.shape.operations (renumbered_entry self.now.file.now self.now.shape (order_of self.now.file.now self.now.shape) place)) }
     {
-        let operations = self.shape.operations;
-        for operation in 0..operations {
+        for operation in 0..self.shape.operations {
             let entry = self.entry_at(place, operation);
             table_writer::write_entry(room, at + ENTRY_BYTES * u32::from(operation), entry);
         }
@@ -77,8 +76,7 @@ impl Numbering<'_> {
         ensures { room.new ≡ sets room.old 0 (entries_of self.now.count self.now.shape.operations (renumbered_entry self.now.file.now self.now.shape (order_of self.now.file.now self.now.shape))) }
     {
         let step = ENTRY_BYTES * u32::from(self.shape.operations);
-        let count = self.count;
-        for place in 0..count {
+        for place in 0..self.count {
             self.write_state(room, step * u32::from(place), place);
         }
     }

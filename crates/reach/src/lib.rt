@@ -59,9 +59,8 @@ fn meet_next(
     requires { Kept order.old number.old count }
     ensures { Keeps (meet_next file.now shape state shape.operations (take count order.old)) order.new number.new result }
 {
-    let operations = shape.operations;
     let mut met = count;
-    for operation in 0..operations {
+    for operation in 0..shape.operations {
         let entry = table::read_entry(file, shape, state, operation);
         met = meet_state(order, number, met, entry.next);
     }
@@ -124,16 +123,11 @@ pub fn reach(file: &[u8], shape: Shape) -> Reached
 }
 
 // Whether an operation moves some state of the table, one that can be reached or not.
-#[tactic(auto, using(laws::proofs::Below::not_any))]
+#[tactic(auto, using(laws::proofs::Chains::all_any))]
 fn moves_some(file: &[u8], shape: Shape, operation: u16) -> bool
     ensures { result ≡ any_below shape.states (λ state. moves file.now shape state operation) }
 {
-    for state in 0..shape.states {
-        if table::moves_state(file, shape, state, operation) {
-            return true;
-        }
-    }
-    false
+    (0..shape.states).any(|state| table::moves_state(file, shape, state, operation))
 }
 
 // Whether a number is a state of the table that an operation moves.
@@ -146,18 +140,12 @@ fn moves_known(file: &[u8], shape: Shape, state: u16, operation: u16) -> bool
     table::moves_state(file, shape, state, operation)
 }
 
-// Whether an operation moves one of the first states of an order.
-#[tactic(auto, using(laws::proofs::Below::not_any))]
-fn moves_met(file: &[u8], shape: Shape, order: &[u16], count: u16, operation: u16) -> bool
-    requires { count ≤ length order.now }
-    ensures { result ≡ any_below count (λ place. ltb (get_or order.now place 0) shape.states && moves file.now shape (get_or order.now place 0) operation) }
+// Whether an operation moves one of the states that were met.
+#[tactic(auto, using(laws::proofs::Chains::all_any))]
+fn moves_met(file: &[u8], shape: Shape, met: &[u16], operation: u16) -> bool
+    ensures { result ≡ any_below (length met.now) (λ place. ltb (get_or met.now place 0) shape.states && moves file.now shape (get_or met.now place 0) operation) }
 {
-    for place in 0..count {
-        if moves_known(file, shape, order[place as usize], operation) {
-            return true;
-        }
-    }
-    false
+    met.iter().any(|state| moves_known(file, shape, *state, operation))
 }
 
 // Whether an operation moves some state that can be reached; otherwise it is reading. One that moves no state of the table is
@@ -172,5 +160,5 @@ pub fn is_changing(file: &[u8], shape: Shape, operation: u16) -> bool
     let mut order = [0; 256];
     let mut number = [0; 256];
     let count = meet_all(file, shape, &mut order, &mut number);
-    moves_met(file, shape, &order, count, operation)
+    moves_met(file, shape, &order[..count as usize], operation)
 }
