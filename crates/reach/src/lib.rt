@@ -10,6 +10,7 @@ ghost use Rattle.table.specs.Entries.{moves};
 ghost use Rattle.reach.specs.Order.{meet, meet_next, order_of};
 ghost use Rattle.reach.specs.Changing.{changing};
 ghost use Rattle.reach.specs.Reached.{reached_of, reached_into, Keeps, Kept};
+ghost use Rattle.reach.specs.Found.{Finds};
 
 use table::Shape;
 
@@ -29,42 +30,46 @@ pub struct Reached {
     pub count: u16,
 }
 
-// Meets a state: puts it at the end of the order if it isn't there yet. Answers how many states the order has then.
-#[tactic(auto, using(crate::proofs::Meeting::meet_no_state, crate::proofs::Meeting::meet_known, crate::proofs::Words::some_listed, crate::proofs::Words::keeps_same, crate::proofs::Words::kept_few, crate::proofs::Words::kept_number_long, crate::proofs::Words::kept_number, crate::proofs::Words::kept_room))]
-fn meet_state(order: &mut [u16], number: &mut [u16], count: u16, state: u16) -> u16
-    requires { Kept order.old number.old count }
-    ensures { Keeps (meet (take count order.old) state) order.new number.new result }
-{
-    if MOST_STATES <= state {
-        return count;
-    }
-    if number[state as usize] != 0 {
-        return count;
-    }
-    order[count as usize] = state;
-    number[state as usize] = count + 1;
-    count + 1
+// The order as far as it is found, in two lent arrays.
+#[derive(Drop)]
+struct Order<'a> {
+    // The states by place.
+    states: &'a mut [u16],
+    // The place of a state and one more, 0 for a state not met.
+    number: &'a mut [u16],
+    // How many states were met.
+    count: u16,
 }
 
-// Meets the next states of a state, operations from 0 up.
-#[tactic(auto, using(crate::proofs::Turns::meet_next_zero, crate::proofs::Words::keeps_same))]
-fn meet_next(
-    file: &[u8],
-    shape: Shape,
-    order: &mut [u16],
-    number: &mut [u16],
-    count: u16,
-    state: u16,
-) -> u16
-    requires { Kept order.old number.old count }
-    ensures { Keeps (meet_next file.now shape state shape.operations (take count order.old)) order.new number.new result }
-{
-    let mut met = count;
-    for operation in 0..shape.operations {
-        let entry = table::read_entry(file, shape, state, operation);
-        met = meet_state(order, number, met, entry.next);
+impl Order<'_> {
+    // Meets a state: puts it at the end of the order if it isn't there yet.
+    #[tactic(auto, using(crate::proofs::Meeting::meet_no_state, crate::proofs::Meeting::meet_known, crate::proofs::Words::some_listed, crate::proofs::Words::keeps_same, crate::proofs::Words::kept_few, crate::proofs::Words::kept_number_long, crate::proofs::Words::kept_number, crate::proofs::Words::kept_room))]
+    fn meet(&mut self, state: u16)
+        requires { Kept self.old.states.now self.old.number.now self.old.count }
+        ensures { Finds (meet (take self.old.count self.old.states.now) state) self.old self.new }
+    {
+        if MOST_STATES <= state {
+            return;
+        }
+        if self.number[state as usize] != 0 {
+            return;
+        }
+        self.states[self.count as usize] = state;
+        self.count += 1;
+        self.number[state as usize] = self.count;
     }
-    met
+
+    // Meets the next states of a state, operations from 0 up.
+    #[tactic(auto, using(crate::proofs::Turns::meet_next_zero, crate::proofs::Words::keeps_same))]
+    fn meet_next(&mut self, file: &[u8], shape: Shape, state: u16)
+        requires { Kept self.old.states.now self.old.number.now self.old.count }
+        ensures { Finds (meet_next file.now shape state shape.operations (take self.old.count self.old.states.now)) self.old self.new }
+    {
+        for operation in 0..shape.operations {
+            let entry = table::read_entry(file, shape, state, operation);
+            self.meet(entry.next);
+        }
+    }
 }
 
 // Meets the start state and gives every state of the order its turn. The arrays are all 0 before.
@@ -73,14 +78,19 @@ fn meet_all(file: &[u8], shape: Shape, order: &mut [u16], number: &mut [u16]) ->
     requires { Kept order.old number.old 0 }
     ensures { Keeps (order_of file.now shape) order.new number.new result }
 {
-    let mut count = meet_state(order, number, 0, shape.start);
+    let mut order = Order {
+        states: order,
+        number,
+        count: 0,
+    };
+    order.meet(shape.start);
     let mut place: u16 = 0;
-    while place < count {
-        let state = order[place as usize];
-        count = meet_next(file, shape, order, number, count, state);
+    while place < order.count {
+        let state = order.states[place as usize];
+        order.meet_next(file, shape, state);
         place += 1;
     }
-    count
+    order.count
 }
 
 // Sets all words to 0.
@@ -149,7 +159,7 @@ fn moves_met(file: &[u8], shape: Shape, met: &[u16], operation: u16) -> bool
 }
 
 // Whether an operation moves some state that can be reached; otherwise it is reading. One that moves no state of the table is
-// reading without a search.
+// reading without a order.
 #[tactic(auto, using(crate::proofs::Words::none_kept, crate::proofs::ChangingWords::unmoved_reading))]
 pub fn is_changing(file: &[u8], shape: Shape, operation: u16) -> bool
     ensures { result ≡ changing file.now shape operation }

@@ -7,15 +7,15 @@ use Rattle.reach.proofs.meet_all.Goals as goal
 
 pub bounds-order-place : goal.bounds-order-place
 bounds-order-place c =
-    let kept = keeps_kept c.loop-place.invariant.1 (turns_distinct c.args.file.now c.args.shape c.loop-place.place) in
+    let kept = keeps_kept c.loop-place.invariant.1.keeps (turns_distinct c.args.file.now c.args.shape c.loop-place.place) in
     omega (arith, c.loop-place-test.true, kept_few kept, kept_order_long kept)
 
-pub meet_next-count-requires : goal.meet_next-count-requires
-meet_next-count-requires c = keeps_kept c.loop-place.invariant.1 (turns_distinct c.args.file.now c.args.shape c.loop-place.place)
+pub meet_next-requires : goal.meet_next-requires
+meet_next-requires c = keeps_kept c.loop-place.invariant.1.keeps (turns_distinct c.args.file.now c.args.shape c.loop-place.place)
 
 pub loop-place-smaller : goal.loop-place-smaller
 loop-place-smaller c =
-    let kept = keeps_kept c.loop-place.invariant.1 (turns_distinct c.args.file.now c.args.shape c.loop-place.place) in
+    let kept = keeps_kept c.loop-place.invariant.1.keeps (turns_distinct c.args.file.now c.args.shape c.loop-place.place) in
     omega (arith, c.loop-place-test.true, kept_few kept)
 
 pub loop-place-preserved : goal.loop-place-preserved
@@ -23,16 +23,20 @@ loop-place-preserved c =
     let a = c.args in
     let l = c.loop-place in
     let list : List ℕ = turns a.file.now a.shape l.place in
-    let keeps = l.invariant.1 in
+    let keeps = l.invariant.1.keeps in
     let below : l.place < length list = omega (arith, c.loop-place-test.true, keeps.count_is) in
     let few = kept_few (keeps_kept keeps (turns_distinct a.file.now a.shape l.place)) in
-    let state : get_or l.order l.place 0 ≡ get_or list l.place 0 =
+    let state : get_or l.order.states.now l.place 0 ≡ get_or list l.place 0 =
     ap (λ (x : List ℕ). get_or x l.place 0) keeps.order_is ∙ order_words_at list l.place below in
     let turned = turns_suc a.file.now a.shape l.place ∙ turn_taken a.file.now a.shape list l.place below in
     let met =
     ap (λ (q : ℕ). meet_next a.file.now a.shape q a.shape.operations list) (sym state)
-    ∙ ap (meet_next a.file.now a.shape (get_or l.order l.place 0) a.shape.operations) (sym (list_kept keeps)) in
-    let after : List ℕ = meet_next a.file.now a.shape (get_or l.order l.place 0) a.shape.operations (take l.count l.order) in (
+    ∙ ap (meet_next a.file.now a.shape (get_or l.order.states.now l.place 0) a.shape.operations) (sym (list_kept keeps)) in
+    let after : List ℕ = meet_next a.file.now a.shape (get_or l.order.states.now l.place 0) a.shape.operations (take l.order.count l.order.states.now) in (
       omega (arith, below, few, keeps.count_is),
-      keeps_same {list = after} c.meet_next-count.ensures (rw add-one (turned ∙ met)),
+      record {
+        same_states = c.meet_next.ensures.same_states ∙ l.invariant.1.same_states;
+        same_number = c.meet_next.ensures.same_number ∙ l.invariant.1.same_number;
+        keeps = keeps_same {list = after} c.meet_next.ensures.keeps (rw add-one (turned ∙ met));
+      },
     )
