@@ -4,13 +4,13 @@
 // The order is kept in two arrays: the states by place, and by state its place and one more, 0 for a state not met.
 #![tactic(auto)]
 
-ghost use Rattle.std.specs.Prelude.{◌≡◌, ◌&&◌, ◌≤◌, ltb, length, get_or, take, replicate};
+ghost use Rattle.std.specs.Prelude.{◌≡◌, ◌&&◌, ◌≤◌, ltb, length, get_or, replicate};
 ghost use Rattle.laws.specs.Below.{any_below};
 ghost use Rattle.table.specs.Entries.{moves};
 ghost use Rattle.reach.specs.Order.{meet, meet_next, order_of};
 ghost use Rattle.reach.specs.Changing.{changing};
 ghost use Rattle.reach.specs.Reached.{reached_of, reached_into, Keeps, Kept};
-ghost use Rattle.reach.specs.Found.{Finds};
+ghost use Rattle.reach.specs.Found.{met, KeptIn, Finds};
 
 use table::Shape;
 
@@ -45,8 +45,8 @@ impl Order<'_> {
     // Meets a state: puts it at the end of the order if it isn't there yet.
     #[tactic(auto, using(crate::proofs::Meeting::meet_no_state, crate::proofs::Meeting::meet_known, crate::proofs::Words::some_listed, crate::proofs::Words::keeps_same, crate::proofs::Words::kept_few, crate::proofs::Words::kept_number_long, crate::proofs::Words::kept_number, crate::proofs::Words::kept_room))]
     fn meet(&mut self, state: u16)
-        requires { Kept self.old.states.now self.old.number.now self.old.count }
-        ensures { Finds (meet (take self.old.count self.old.states.now) state) self.old self.new }
+        requires { KeptIn self.old }
+        ensures { Finds (meet (met self.old) state) self.old self.new }
     {
         if MOST_STATES <= state {
             return;
@@ -62,8 +62,8 @@ impl Order<'_> {
     // Meets the next states of a state, operations from 0 up.
     #[tactic(auto, using(crate::proofs::Turns::meet_next_zero, crate::proofs::Words::keeps_same))]
     fn meet_next(&mut self, file: &[u8], shape: Shape, state: u16)
-        requires { Kept self.old.states.now self.old.number.now self.old.count }
-        ensures { Finds (meet_next file.now shape state shape.operations (take self.old.count self.old.states.now)) self.old self.new }
+        requires { KeptIn self.old }
+        ensures { Finds (meet_next file.now shape state shape.operations (met self.old)) self.old self.new }
     {
         for operation in 0..shape.operations {
             let entry = table::read_entry(file, shape, state, operation);

@@ -1,6 +1,7 @@
 -- The states at the places passed have had their turn.
-use Rattle.std.proofs.Common.{List, ℕ, ◌≡◌, ◌<◌, length, get_or, take, sym, ap, ◌∙◌, add-one, arith}
+use Rattle.std.proofs.Common.{List, ℕ, ◌≡◌, ◌<◌, length, get_or, sym, ap, ◌∙◌, add-one, arith}
 use Rattle.reach.specs.Order.{meet_next, turns}
+use Rattle.reach.specs.Found.{met}
 use Rattle.reach.proofs.Turns.{turns_suc, turn_taken, turns_distinct}
 use Rattle.reach.proofs.Words.{order_words_at, list_kept, keeps_kept, keeps_same, kept_few, kept_order_long}
 use Rattle.reach.proofs.meet_all.Goals as goal
@@ -29,14 +30,14 @@ loop-place-preserved c =
     let state : get_or l.order.states.now l.place 0 ≡ get_or list l.place 0 =
     ap (λ (x : List ℕ). get_or x l.place 0) keeps.order_is ∙ order_words_at list l.place below in
     let turned = turns_suc a.file.now a.shape l.place ∙ turn_taken a.file.now a.shape list l.place below in
-    let met =
+    let more =
     ap (λ (q : ℕ). meet_next a.file.now a.shape q a.shape.operations list) (sym state)
     ∙ ap (meet_next a.file.now a.shape (get_or l.order.states.now l.place 0) a.shape.operations) (sym (list_kept keeps)) in
-    let after : List ℕ = meet_next a.file.now a.shape (get_or l.order.states.now l.place 0) a.shape.operations (take l.order.count l.order.states.now) in (
+    let after : List ℕ = meet_next a.file.now a.shape (get_or l.order.states.now l.place 0) a.shape.operations (met l.order) in (
       omega (arith, below, few, keeps.count_is),
       record {
         same_states = c.meet_next.ensures.same_states ∙ l.invariant.1.same_states;
         same_number = c.meet_next.ensures.same_number ∙ l.invariant.1.same_number;
-        keeps = keeps_same {list = after} c.meet_next.ensures.keeps (rw add-one (turned ∙ met));
+        keeps = keeps_same {list = after} c.meet_next.ensures.keeps (rw add-one (turned ∙ more));
       },
     )
