@@ -155,7 +155,8 @@ fn moves_known(file: &[u8], shape: Shape, state: u16, operation: u16) -> bool
 fn moves_met(file: &[u8], shape: Shape, met: &[u16], operation: u16) -> bool
     ensures { result ≡ any_below (length met.now) (λ place. ltb (get_or met.now place 0) shape.states && moves file.now shape (get_or met.now place 0) operation) }
 {
-    met.iter().any(|state| moves_known(file, shape, *state, operation))
+    met.iter()
+        .any(|state| moves_known(file, shape, *state, operation))
 }
 
 // Whether an operation moves some state that can be reached; otherwise it is reading. One that moves no state of the table is
