@@ -1,5 +1,5 @@
 -- Whether an operation is changing, by the arrays that keep the order of first meeting.
-use Prim.Native.Nat.{ℕ, ◌<◌}
+use Prim.Native.Nat.{ℕ}
 use mathlib.Core.Path.{◌≡◌, refl, ap, ◌∙◌}
 use mathlib.Core.Bool.{Bool, true, false, ◌&&◌, and-eq-true_iff, and-false}
 use mathlib.Core.List.{List}
@@ -8,15 +8,13 @@ use borrow.Author.Tests.{ltb-true, lt-ltb}
 use lib.Dec.{ltb}
 use lib.ListN.{length, get_or}
 use Rattle.laws.specs.Below.{any_below}
-use Rattle.laws.proofs.Below.{any_of, some_at, any_same, none_at, not_any}
+use Rattle.laws.proofs.Below.{any_of, some_at, none_at, not_any}
 use Rattle.laws.proofs.Decision.{same_tests}
 use Rattle.table.specs.declared.Shape.{Shape}
 use Rattle.table.specs.Entries.{moves}
 use Rattle.reach.specs.Order.{place_in, listed, order_of}
-use Rattle.reach.specs.Reached.{Keeps}
 use Rattle.reach.specs.Changing.{reachable, changing}
 use Rattle.reach.proofs.Places.{place_holds, place_first}
-use Rattle.reach.proofs.Words.{order_words_at}
 
 -- ---- A test at some place of a list, and at some number that stands in it
 

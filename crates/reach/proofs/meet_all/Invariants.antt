@@ -1,5 +1,4 @@
 use Prim.Native.Nat.{◌-◌, ◌≤◌}
-use mathlib.Core.Path.{◌≡◌}
 use Rattle.table.specs.Layout.{most_states}
 use Rattle.reach.specs.Order.{turns}
 use Rattle.reach.specs.Found.{Finds}

@@ -1,5 +1,5 @@
 -- The next states by the operations passed are met.
-use Rattle.std.proofs.Common.{List, ℕ, sym, ap, ◌∙◌, add-one, arith}
+use Rattle.std.proofs.Common.{List, ℕ, sym, ap, ◌∙◌, add-one}
 use Rattle.table.specs.declared.Entry.{Entry}
 use Rattle.reach.specs.Walk.{next_of}
 use Rattle.reach.specs.Order.{meet}
