@@ -1,6 +1,6 @@
 -- What a search has found so far in the arrays that are lent to it, and what a step of it finds.
 use Rattle.std.specs.Prelude.{◌≡◌, List, ℕ, take}
-use Rattle.reach.specs.declared.Order.{Order}
+use Rattle.reach.specs.declared.order.Order.{Order}
 use Rattle.reach.specs.Reached.{Keeps, Kept}
 
 -- The states that were met, in this order.

@@ -4,17 +4,15 @@
 // The order is kept in two arrays: the states by place, and by state its place and one more, 0 for a state not met.
 #![tactic(auto)]
 
-ghost use Rattle.std.specs.Prelude.{◌≡◌, ◌&&◌, ◌≤◌, ltb, length, get_or, replicate};
+ghost use Rattle.std.specs.Prelude.{◌≡◌, ◌&&◌, ltb, length, get_or};
 ghost use Rattle.laws.specs.Below.{any_below};
 ghost use Rattle.table.specs.Entries.{moves};
-ghost use Rattle.reach.specs.Order.{meet, meet_next, order_of};
 ghost use Rattle.reach.specs.Changing.{changing};
-ghost use Rattle.reach.specs.Reached.{reached_of, reached_into, Keeps, Kept};
-ghost use Rattle.reach.specs.Found.{met, KeptIn, Finds};
+ghost use Rattle.reach.specs.Reached.{reached_of, reached_into};
 
 use table::Shape;
 
-const MOST_STATES: u16 = 256;
+mod order;
 
 // The length of the arrays: a place for each state that a table can have.
 const PLACES: usize = 256;
@@ -30,76 +28,6 @@ pub struct Reached {
     pub count: u16,
 }
 
-// The order as far as it is found, in two lent arrays.
-#[derive(Drop)]
-struct Order<'a> {
-    // The states by place.
-    states: &'a mut [u16],
-    // The place of a state and one more, 0 for a state not met.
-    number: &'a mut [u16],
-    // How many states were met.
-    count: u16,
-}
-
-impl Order<'_> {
-    // Meets a state: puts it at the end of the order if it isn't there yet.
-    #[tactic(auto, using(crate::proofs::Meeting::meet_no_state, crate::proofs::Meeting::meet_known, crate::proofs::Words::some_listed, crate::proofs::Words::keeps_same, crate::proofs::Words::kept_few, crate::proofs::Words::kept_number_long, crate::proofs::Words::kept_number, crate::proofs::Words::kept_room))]
-    fn meet(&mut self, state: u16)
-        requires { KeptIn self.old }
-        ensures { Finds (meet (met self.old) state) self.old self.new }
-    {
-        if MOST_STATES <= state {
-            return;
-        }
-        if self.number[state as usize] != 0 {
-            return;
-        }
-        self.states[self.count as usize] = state;
-        self.count += 1;
-        self.number[state as usize] = self.count;
-    }
-
-    // Meets the next states of a state, operations from 0 up.
-    #[tactic(auto, using(crate::proofs::Turns::meet_next_zero, crate::proofs::Words::keeps_same))]
-    fn meet_next(&mut self, file: &[u8], shape: Shape, state: u16)
-        requires { KeptIn self.old }
-        ensures { Finds (meet_next file.now shape state shape.operations (met self.old)) self.old self.new }
-    {
-        for operation in 0..shape.operations {
-            let entry = table::read_entry(file, shape, state, operation);
-            self.meet(entry.next);
-        }
-    }
-}
-
-// Meets the start state and gives every state of the order its turn. The arrays are all 0 before.
-#[tactic(auto, using(crate::proofs::Turns::turns_zero, crate::proofs::Turns::order_past, crate::proofs::Words::keeps_same))]
-fn meet_all(file: &[u8], shape: Shape, order: &mut [u16], number: &mut [u16]) -> u16
-    requires { Kept order.old number.old 0 }
-    ensures { Keeps (order_of file.now shape) order.new number.new result }
-{
-    let mut order = Order {
-        states: order,
-        number,
-        count: 0,
-    };
-    order.meet(shape.start);
-    let mut place: u16 = 0;
-    while place < order.count {
-        let state = order.states[place as usize];
-        order.meet_next(file, shape, state);
-        place += 1;
-    }
-    order.count
-}
-
-// Sets all words to 0.
-fn clear(words: &mut [u16])
-    ensures { words.new ≡ replicate (length words.old) 0 }
-{
-    words.fill(0);
-}
-
 // The states of a table that can be reached, in arrays of 256 words that may hold anything before. Answers how many they are;
 // arrays of another length are left as they were, and the answer is 0.
 #[tactic(auto, using(crate::proofs::Words::keeps_reached, crate::proofs::Words::into_other_order, crate::proofs::Words::into_other_number, crate::proofs::Words::into_both))]
@@ -112,9 +40,9 @@ pub fn reach_into(file: &[u8], shape: Shape, order: &mut [u16], number: &mut [u1
     if number.len() != PLACES {
         return 0;
     }
-    clear(order);
-    clear(number);
-    meet_all(file, shape, order, number)
+    order.fill(0);
+    number.fill(0);
+    order::meet_all(file, shape, order, number)
 }
 
 // The states of a table that can be reached, by value.
@@ -144,10 +72,7 @@ fn moves_some(file: &[u8], shape: Shape, operation: u16) -> bool
 fn moves_known(file: &[u8], shape: Shape, state: u16, operation: u16) -> bool
     ensures { result ≡ (ltb state shape.states && moves file.now shape state operation) }
 {
-    if shape.states <= state {
-        return false;
-    }
-    table::moves_state(file, shape, state, operation)
+    state < shape.states && table::moves_state(file, shape, state, operation)
 }
 
 // Whether an operation moves one of the states that were met.
@@ -170,6 +95,6 @@ pub fn is_changing(file: &[u8], shape: Shape, operation: u16) -> bool
     }
     let mut order = [0; 256];
     let mut number = [0; 256];
-    let count = meet_all(file, shape, &mut order, &mut number);
+    let count = order::meet_all(file, shape, &mut order, &mut number);
     moves_met(file, shape, &order[..count as usize], operation)
 }

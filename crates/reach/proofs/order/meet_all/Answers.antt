@@ -4,7 +4,7 @@ use Rattle.reach.specs.Order.{meet_next, turns}
 use Rattle.reach.specs.Found.{met}
 use Rattle.reach.proofs.Turns.{turns_suc, turn_taken, turns_distinct}
 use Rattle.reach.proofs.Words.{order_words_at, list_kept, keeps_kept, keeps_same, kept_few, kept_order_long}
-use Rattle.reach.proofs.meet_all.Goals as goal
+use Rattle.reach.proofs.order.meet_all.Goals as goal
 
 pub bounds-order-place : goal.bounds-order-place
 bounds-order-place c =

@@ -6,7 +6,7 @@ use Rattle.reach.specs.Order.{meet}
 use Rattle.reach.specs.Found.{met}
 use Rattle.reach.proofs.Turns.{meet_next_suc, next_distinct}
 use Rattle.reach.proofs.Words.{list_kept, keeps_kept, keeps_same}
-use Rattle.reach.proofs.Order.meet_next.Goals as goal
+use Rattle.reach.proofs.order.Order.meet_next.Goals as goal
 
 pub meet-requires : goal.meet-requires
 meet-requires c =

@@ -1,6 +1,6 @@
 use Rattle.reach.specs.Order.{meet_next}
 use Rattle.reach.specs.Found.{met, Finds}
-use Rattle.reach.proofs.Order.meet_next.Given as goal
+use Rattle.reach.proofs.order.Order.meet_next.Given as goal
 
 abbrev pub invariant-loop-operation : goal.invariant-loop-operation
 invariant-loop-operation l =

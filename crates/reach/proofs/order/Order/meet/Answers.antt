@@ -1,7 +1,7 @@
 -- A state without a number is put at the end of the order, and gets the next number.
 use Rattle.std.proofs.Common.{refl, arith}
 use Rattle.reach.proofs.Words.{kept_order_long, kept_room, kept_more}
-use Rattle.reach.proofs.Order.meet.Goals as goal
+use Rattle.reach.proofs.order.Order.meet.Goals as goal
 
 pub bounds-self-self : goal.bounds-self-self
 bounds-self-self c = omega (arith, kept_order_long c.requires, kept_room c.requires c.args.state (omega arith) (omega arith))
