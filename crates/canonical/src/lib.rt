@@ -50,8 +50,13 @@ impl Numbering<'_> {
         requires { (place < length (order_of self.now.file.now self.now.shape)) × (operation < self.now.shape.operations) }
         ensures { result ≡ renumbered_entry self.now.file.now self.now.shape (order_of self.now.file.now self.now.shape) place operation }
     {
-        let entry = table::read_entry(self.file, self.shape, self.order[place as usize], operation);
-        let next = entry.next as usize;
+        let entry = table::read_entry(
+            self.file,
+            self.shape,
+            self.order[usize::from(place)],
+            operation,
+        );
+        let next = usize::from(entry.next);
         Entry {
             next: self.number[next] - 1,
             response: entry.response,

@@ -30,7 +30,7 @@ pub struct Reached {
 
 // The states of a table that can be reached, in arrays of 256 words that may hold anything before. Answers how many they are;
 // arrays of another length are left as they were, and the answer is 0.
-#[tactic(auto, using(crate::proofs::Words::keeps_reached, crate::proofs::Words::into_other_order, crate::proofs::Words::into_other_number, crate::proofs::Words::into_both))]
+#[tactic(auto, using(crate::proofs::Words::into_other_order, crate::proofs::Words::into_other_number, crate::proofs::Words::into_both))]
 pub fn reach_into(file: &[u8], shape: Shape, order: &mut [u16], number: &mut [u16]) -> u16
     ensures { (order.new ≡ (reached_into file.now shape order.old number.old).order) × (number.new ≡ (reached_into file.now shape order.old number.old).number) × (result ≡ (reached_into file.now shape order.old number.old).count) }
 {
@@ -96,5 +96,5 @@ pub fn is_changing(file: &[u8], shape: Shape, operation: u16) -> bool
     let mut order = [0; 256];
     let mut number = [0; 256];
     let count = order::meet_all(file, shape, &mut order, &mut number);
-    moves_met(file, shape, &order[..count as usize], operation)
+    moves_met(file, shape, &order[..usize::from(count)], operation)
 }

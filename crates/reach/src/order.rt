@@ -28,12 +28,13 @@ impl Order<'_> {
         if MOST_STATES <= state {
             return;
         }
-        if self.number[state as usize] != 0 {
+        let at = usize::from(state);
+        if self.number[at] != 0 {
             return;
         }
-        self.states[self.count as usize] = state;
+        self.states[usize::from(self.count)] = state;
         self.count += 1;
-        self.number[state as usize] = self.count;
+        self.number[at] = self.count;
     }
 
     // Meets the next states of a state, operations from 0 up.
@@ -63,7 +64,7 @@ pub(crate) fn meet_all(file: &[u8], shape: Shape, order: &mut [u16], number: &mu
     order.meet(shape.start);
     let mut place: u16 = 0;
     while place < order.count {
-        let state = order.states[place as usize];
+        let state = order.states[usize::from(place)];
         order.meet_next(file, shape, state);
         place += 1;
     }

@@ -3,8 +3,9 @@ use Rattle.std.proofs.Common.{refl, arith}
 use Rattle.reach.proofs.Words.{kept_order_long, kept_room, kept_more}
 use Rattle.reach.proofs.order.Order.meet.Goals as goal
 
-pub bounds-self-self : goal.bounds-self-self
-bounds-self-self c = omega (arith, kept_order_long c.requires, kept_room c.requires c.args.state (omega arith) (omega arith))
+pub bounds-self-from : goal.bounds-self-from
+bounds-self-from c =
+    omega (arith, c.from.ensures, kept_order_long c.requires, kept_room c.requires c.args.state (omega arith) (rw (← c.from-at.ensures) (omega arith)))
 
 pub returns : goal.returns
-returns c = record { same_states = refl; same_number = refl; keeps = kept_more c.requires c.args.state (omega arith) (omega arith) }
+returns c = record { same_states = refl; same_number = refl; keeps = rw (c.from-at.ensures, c.from.ensures) (kept_more c.requires c.args.state (omega arith) (rw (← c.from-at.ensures) (omega arith))) }
