@@ -15,87 +15,86 @@ use table::{Entry, Shape};
 // The bytes of an entry.
 const ENTRY_BYTES: u32 = 2;
 
-// The entry of a new number and an operation: the next state by its new number.
-#[tactic(auto, using(crate::proofs::Arrays::read_some, crate::proofs::Arrays::read_renumbered))]
-fn entry_at(
-    file: &[u8],
+// An accepted table, and the arrays of its order: what the writer works with.
+#[derive(Clone, Copy)]
+struct Numbering<'a> {
+    file: &'a [u8],
     shape: Shape,
-    order: &[u16],
-    number: &[u16],
-    place: u16,
-    operation: u16,
-) -> Entry
-    requires { Numbered file.now shape order.now number.now × (place < length (order_of file.now shape)) × (operation < shape.operations) }
-    ensures { result ≡ renumbered_entry file.now shape (order_of file.now shape) place operation }
-{
-    let entry = table::read_entry(file, shape, order[place as usize], operation);
-    let next = entry.next as usize;
-    Entry {
-        next: number[next] - 1,
-        response: entry.response,
-    }
-}
-
-// Writes the entries of a new number at a place of the room.
-#[tactic(auto, using(laws::proofs::Lists::sets_then, table_writer::proofs::ReadsBack::state_length), unfolding(laws::specs::Joined::joined))]
-fn write_state(
-    room: &mut [u8],
-    at: u32,
-    file: &[u8],
-    shape: Shape,
-    order: &[u16],
-    number: &[u16],
-    place: u16,
-)
-    requires { Numbered file.now shape order.now number.now × (place < length (order_of file.now shape)) × (at ≤ 16384) }
-    ensures { room.new ≡ sets room.old at (state_bytes shape.operations (renumbered_entry file.now shape (order_of file.now shape) place)) }
-{
-    let operations = shape.operations;
-    let mut operation: u16 = 0;
-    while operation < operations {
-        let entry = entry_at(file, shape, order, number, place, operation);
-        table_writer::write_entry(room, at + ENTRY_BYTES * operation as u32, entry);
-        operation += 1;
-    }
-}
-
-// Writes the entries of all new numbers at the room's start.
-#[tactic(auto, using(laws::proofs::Lists::sets_then, table_writer::proofs::ReadsBack::entries_length), unfolding(laws::specs::Joined::joined))]
-fn write_states(
-    room: &mut [u8],
-    file: &[u8],
-    shape: Shape,
-    order: &[u16],
-    number: &[u16],
+    // The states by new number.
+    order: &'a [u16],
+    // The new number of a state and one more.
+    number: &'a [u16],
+    // How many states have one.
     count: u16,
-)
-    requires { Numbered file.now shape order.now number.now × (count ≡ length (order_of file.now shape)) }
-    ensures { room.new ≡ sets room.old 0 (entries_of count shape.operations (renumbered_entry file.now shape (order_of file.now shape))) }
-{
-    let step = ENTRY_BYTES * shape.operations as u32;
-    let mut place: u16 = 0;
-    while place < count {
-        write_state(room, step * place as u32, file, shape, order, number, place);
-        place += 1;
-    }
+    ghost numbered: { Numbered file.now shape order.now number.now },
+    ghost counted: { count ≡ length (order_of file.now shape) },
 }
 
-// Writes the file at the room's start.
-#[tactic(auto, using(laws::proofs::Lists::sets_then, table_writer::proofs::ReadsBack::entries_length), unfolding(crate::specs::Canonical::renumbered, table_writer::specs::Written::file_of))]
-fn write_file(
-    room: &mut [u8],
-    file: &[u8],
-    shape: Shape,
-    order: &[u16],
-    number: &[u16],
-    written: Shape,
-)
-    requires { Numbered file.now shape order.now number.now × (written ≡ renumbered_shape shape (order_of file.now shape)) }
-    ensures { room.new ≡ sets room.old 0 (renumbered file.now shape (order_of file.now shape)) }
-{
-    write_states(room, file, shape, order, number, written.states);
-    let end = ENTRY_BYTES * written.states as u32 * written.operations as u32;
-    table_writer::write_trailer(room, end, written);
+impl Numbering<'_> {
+    // The shape of the file that is written.
+    fn written(&self) -> Shape
+        ensures { result ≡ renumbered_shape self.now.shape (order_of self.now.file.now self.now.shape) }
+    {
+        Shape {
+            offset: 0,
+            states: self.count,
+            operations: self.shape.operations,
+            start: 0,
+        }
+    }
+
+    // The entry of a new number and an operation: the next state by its new number.
+    #[tactic(auto, using(crate::proofs::Arrays::read_some, crate::proofs::Arrays::read_renumbered))]
+    fn entry_at(&self, place: u16, operation: u16) -> Entry
+        requires { (place < length (order_of self.now.file.now self.now.shape)) × (operation < self.now.shape.operations) }
+        ensures { result ≡ renumbered_entry self.now.file.now self.now.shape (order_of self.now.file.now self.now.shape) place operation }
+    {
+        let entry = table::read_entry(
+            self.file,
+            self.shape,
+            self.order[usize::from(place)],
+            operation,
+        );
+        let next = usize::from(entry.next);
+        Entry {
+            next: self.number[next] - 1,
+            response: entry.response,
+        }
+    }
+
+    // Writes the entries of a new number at a place of the room.
+    #[tactic(auto, using(laws::proofs::Lists::sets_then, table_writer::proofs::ReadsBack::state_length), unfolding(laws::specs::Joined::joined))]
+    fn write_state(&self, room: &mut [u8], at: u32, place: u16)
+        requires { (place < length (order_of self.now.file.now self.now.shape)) × (at ≤ 16384) }
+        ensures { room.new ≡ sets room.old at (state_bytes self.now.shape.operations (renumbered_entry self.now.file.now self.now.shape (order_of self.now.file.now self.now.shape) place)) }
+    {
+        for operation in 0..self.shape.operations {
+            let entry = self.entry_at(place, operation);
+            table_writer::write_entry(room, at + ENTRY_BYTES * u32::from(operation), entry);
+        }
+    }
+
+    // Writes the entries of all new numbers at the room's start.
+    #[tactic(auto, using(laws::proofs::Lists::sets_then, table_writer::proofs::ReadsBack::entries_length), unfolding(laws::specs::Joined::joined))]
+    fn write_states(&self, room: &mut [u8])
+        ensures { room.new ≡ sets room.old 0 (entries_of self.now.count self.now.shape.operations (renumbered_entry self.now.file.now self.now.shape (order_of self.now.file.now self.now.shape))) }
+    {
+        let step = ENTRY_BYTES * u32::from(self.shape.operations);
+        for place in 0..self.count {
+            self.write_state(room, step * u32::from(place), place);
+        }
+    }
+
+    // Writes the file at the room's start.
+    #[tactic(auto, using(laws::proofs::Lists::sets_then, table_writer::proofs::ReadsBack::entries_length), unfolding(crate::specs::Canonical::renumbered, table_writer::specs::Written::file_of))]
+    fn write_file(&self, room: &mut [u8])
+        ensures { room.new ≡ sets room.old 0 (renumbered self.now.file.now self.now.shape (order_of self.now.file.now self.now.shape)) }
+    {
+        self.write_states(room);
+        let written = self.written();
+        let end = ENTRY_BYTES * u32::from(written.states) * u32::from(written.operations);
+        table_writer::write_trailer(room, end, written);
+    }
 }
 
 // Writes the file of an accepted table at the room's start, and answers its length in bytes.
@@ -107,17 +106,18 @@ fn write_accepted(file: &[u8], shape: Shape, room: &mut [u8]) -> Result<u32, Ref
     let mut order = [0; 256];
     let mut number = [0; 256];
     let count = reach::reach_into(file, shape, &mut order, &mut number);
-    let written = Shape {
-        offset: 0,
-        states: count,
-        operations: shape.operations,
-        start: 0,
+    let numbering = Numbering {
+        file,
+        shape,
+        order: &order,
+        number: &number,
+        count,
     };
-    let length = table::file_length(written);
+    let length = table::file_length(numbering.written());
     if room.len() < length {
         return Err(Refusal::Room);
     }
-    write_file(room, file, shape, &order, &number, written);
+    numbering.write_file(room);
     Ok(length as u32)
 }
 

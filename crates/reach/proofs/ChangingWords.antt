@@ -1,5 +1,5 @@
 -- Whether an operation is changing, by the arrays that keep the order of first meeting.
-use Prim.Native.Nat.{ℕ, ◌<◌}
+use Prim.Native.Nat.{ℕ}
 use mathlib.Core.Path.{◌≡◌, refl, ap, ◌∙◌}
 use mathlib.Core.Bool.{Bool, true, false, ◌&&◌, and-eq-true_iff, and-false}
 use mathlib.Core.List.{List}
@@ -8,15 +8,13 @@ use borrow.Author.Tests.{ltb-true, lt-ltb}
 use lib.Dec.{ltb}
 use lib.ListN.{length, get_or}
 use Rattle.laws.specs.Below.{any_below}
-use Rattle.laws.proofs.Below.{any_of, some_at, any_same, none_at, not_any}
+use Rattle.laws.proofs.Below.{any_of, some_at, none_at, not_any}
 use Rattle.laws.proofs.Decision.{same_tests}
 use Rattle.table.specs.declared.Shape.{Shape}
 use Rattle.table.specs.Entries.{moves}
 use Rattle.reach.specs.Order.{place_in, listed, order_of}
-use Rattle.reach.specs.Reached.{Keeps}
 use Rattle.reach.specs.Changing.{reachable, changing}
 use Rattle.reach.proofs.Places.{place_holds, place_first}
-use Rattle.reach.proofs.Words.{order_words_at}
 
 -- ---- A test at some place of a list, and at some number that stands in it
 
@@ -42,17 +40,11 @@ module _ (list : List ℕ) (bound : ℕ) (test : ℕ → Bool) where
   any_listed = same_tests _ _ placed standing
 
 module _ (file : List ℕ) (shape : Shape) (operation : ℕ) where
-  -- Arrays that keep the order say by their first states whether an operation is changing.
-  pub changing_by_words : {order number : List ℕ} {count : ℕ} → Keeps (order_of file shape) order number count
-      → any_below count (λ place. ltb (get_or order place 0) shape.states && moves file shape (get_or order place 0) operation) ≡ changing file shape operation
+  -- The states of the order say whether an operation is changing.
+  pub changing_by_states : {met : List ℕ} → met ≡ order_of file shape
+      → any_below (length met) (λ place. ltb (get_or met place 0) shape.states && moves file shape (get_or met place 0) operation) ≡ changing file shape operation
   unfolding changing reachable
-  changing_by_words {order} {number} {count} keeps =
-      let list : List ℕ = order_of file shape in
-      let word : (place : ℕ) → place < length list → get_or order place 0 ≡ get_or list place 0 =
-      λ place h. ap (λ (x : List ℕ). get_or x place 0) keeps.order_is ∙ order_words_at list place h in
-      ap (λ (k : ℕ). any_below k (λ place. ltb (get_or order place 0) shape.states && moves file shape (get_or order place 0) operation)) keeps.count_is
-      ∙ any_same (length list) _ _ (λ place h. ap (λ (q : ℕ). ltb q shape.states && moves file shape q operation) (word place h))
-      ∙ any_listed list shape.states (λ state. moves file shape state operation)
+  changing_by_states e = rw e (any_listed (order_of file shape) shape.states (λ state. moves file shape state operation))
 
   -- An operation that moves no state of the table is reading.
   pub unmoved_reading : any_below shape.states (λ state. moves file shape state operation) ≡ false → changing file shape operation ≡ false

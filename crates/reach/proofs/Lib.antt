@@ -1,4 +1,3 @@
-pub mod AtMost
 pub mod Places
 pub mod Meeting
 pub mod Search

@@ -4,16 +4,15 @@
 // The order is kept in two arrays: the states by place, and by state its place and one more, 0 for a state not met.
 #![tactic(auto)]
 
-ghost use Rattle.std.specs.Prelude.{◌≡◌, ◌&&◌, ◌≤◌, ltb, length, get_or, take, replicate};
+ghost use Rattle.std.specs.Prelude.{◌≡◌, ◌&&◌, ltb, length, get_or};
 ghost use Rattle.laws.specs.Below.{any_below};
 ghost use Rattle.table.specs.Entries.{moves};
-ghost use Rattle.reach.specs.Order.{meet, meet_next, order_of};
 ghost use Rattle.reach.specs.Changing.{changing};
-ghost use Rattle.reach.specs.Reached.{reached_of, reached_into, Keeps, Kept};
+ghost use Rattle.reach.specs.Reached.{reached_of, reached_into};
 
 use table::Shape;
 
-const MOST_STATES: u16 = 256;
+mod order;
 
 // The length of the arrays: a place for each state that a table can have.
 const PLACES: usize = 256;
@@ -29,78 +28,9 @@ pub struct Reached {
     pub count: u16,
 }
 
-// Meets a state: puts it at the end of the order if it isn't there yet. Answers how many states the order has then.
-#[tactic(auto, using(crate::proofs::Meeting::meet_no_state, crate::proofs::Meeting::meet_known, crate::proofs::Words::some_listed, crate::proofs::Words::keeps_same, crate::proofs::Words::kept_few, crate::proofs::Words::kept_number_long, crate::proofs::Words::kept_number, crate::proofs::Words::kept_room))]
-fn meet_state(order: &mut [u16], number: &mut [u16], count: u16, state: u16) -> u16
-    requires { Kept order.old number.old count }
-    ensures { Keeps (meet (take count order.old) state) order.new number.new result }
-{
-    if MOST_STATES <= state {
-        return count;
-    }
-    if number[state as usize] != 0 {
-        return count;
-    }
-    order[count as usize] = state;
-    number[state as usize] = count + 1;
-    count + 1
-}
-
-// Meets the next states of a state, operations from 0 up.
-#[tactic(auto, using(crate::proofs::Turns::meet_next_zero, crate::proofs::Words::keeps_same))]
-fn meet_next(
-    file: &[u8],
-    shape: Shape,
-    order: &mut [u16],
-    number: &mut [u16],
-    count: u16,
-    state: u16,
-) -> u16
-    requires { Kept order.old number.old count }
-    ensures { Keeps (meet_next file.now shape state shape.operations (take count order.old)) order.new number.new result }
-{
-    let operations = shape.operations;
-    let mut met = count;
-    let mut operation: u16 = 0;
-    while operation < operations {
-        let entry = table::read_entry(file, shape, state, operation);
-        met = meet_state(order, number, met, entry.next);
-        operation += 1;
-    }
-    met
-}
-
-// Meets the start state and gives every state of the order its turn. The arrays are all 0 before.
-#[tactic(auto, using(crate::proofs::Turns::turns_zero, crate::proofs::Turns::order_past, crate::proofs::Words::keeps_same))]
-fn meet_all(file: &[u8], shape: Shape, order: &mut [u16], number: &mut [u16]) -> u16
-    requires { Kept order.old number.old 0 }
-    ensures { Keeps (order_of file.now shape) order.new number.new result }
-{
-    let mut count = meet_state(order, number, 0, shape.start);
-    let mut place: u16 = 0;
-    while place < count {
-        let state = order[place as usize];
-        count = meet_next(file, shape, order, number, count, state);
-        place += 1;
-    }
-    count
-}
-
-// Sets all words to 0.
-#[tactic(auto, using(laws::proofs::Lists::filled_more, laws::proofs::Lists::filled_all))]
-fn clear(words: &mut [u16])
-    ensures { words.new ≡ replicate (length words.old) 0 }
-{
-    let mut at = 0;
-    while at < words.len() {
-        words[at] = 0;
-        at += 1;
-    }
-}
-
 // The states of a table that can be reached, in arrays of 256 words that may hold anything before. Answers how many they are;
 // arrays of another length are left as they were, and the answer is 0.
-#[tactic(auto, using(crate::proofs::Words::keeps_reached, crate::proofs::Words::into_other_order, crate::proofs::Words::into_other_number, crate::proofs::Words::into_both))]
+#[tactic(auto, using(crate::proofs::Words::into_other_order, crate::proofs::Words::into_other_number, crate::proofs::Words::into_both))]
 pub fn reach_into(file: &[u8], shape: Shape, order: &mut [u16], number: &mut [u16]) -> u16
     ensures { (order.new ≡ (reached_into file.now shape order.old number.old).order) × (number.new ≡ (reached_into file.now shape order.old number.old).number) × (result ≡ (reached_into file.now shape order.old number.old).count) }
 {
@@ -110,9 +40,9 @@ pub fn reach_into(file: &[u8], shape: Shape, order: &mut [u16], number: &mut [u1
     if number.len() != PLACES {
         return 0;
     }
-    clear(order);
-    clear(number);
-    meet_all(file, shape, order, number)
+    order.fill(0);
+    number.fill(0);
+    order::meet_all(file, shape, order, number)
 }
 
 // The states of a table that can be reached, by value.
@@ -131,50 +61,31 @@ pub fn reach(file: &[u8], shape: Shape) -> Reached
 }
 
 // Whether an operation moves some state of the table, one that can be reached or not.
-#[tactic(auto, using(laws::proofs::Below::not_any))]
+#[tactic(auto, using(laws::proofs::Chains::all_any))]
 fn moves_some(file: &[u8], shape: Shape, operation: u16) -> bool
     ensures { result ≡ any_below shape.states (λ state. moves file.now shape state operation) }
 {
-    let states = shape.states;
-    let mut state: u16 = 0;
-    while state < states {
-        if table::moves_state(file, shape, state, operation) {
-            return true;
-        }
-        state += 1;
-    }
-    false
+    (0..shape.states).any(|state| table::moves_state(file, shape, state, operation))
 }
 
 // Whether a number is a state of the table that an operation moves.
 fn moves_known(file: &[u8], shape: Shape, state: u16, operation: u16) -> bool
     ensures { result ≡ (ltb state shape.states && moves file.now shape state operation) }
 {
-    if shape.states <= state {
-        return false;
-    }
-    table::moves_state(file, shape, state, operation)
+    state < shape.states && table::moves_state(file, shape, state, operation)
 }
 
-// Whether an operation moves one of the first states of an order.
-#[tactic(auto, using(laws::proofs::Below::not_any))]
-fn moves_met(file: &[u8], shape: Shape, order: &[u16], count: u16, operation: u16) -> bool
-    requires { count ≤ length order.now }
-    ensures { result ≡ any_below count (λ place. ltb (get_or order.now place 0) shape.states && moves file.now shape (get_or order.now place 0) operation) }
+// Whether an operation moves one of the states that were met.
+#[tactic(auto, using(laws::proofs::Chains::all_any))]
+fn moves_met(file: &[u8], shape: Shape, met: &[u16], operation: u16) -> bool
+    ensures { result ≡ any_below (length met.now) (λ place. ltb (get_or met.now place 0) shape.states && moves file.now shape (get_or met.now place 0) operation) }
 {
-    let mut place: u16 = 0;
-    while place < count {
-        let met = order[place as usize];
-        if moves_known(file, shape, met, operation) {
-            return true;
-        }
-        place += 1;
-    }
-    false
+    met.iter()
+        .any(|state| moves_known(file, shape, *state, operation))
 }
 
 // Whether an operation moves some state that can be reached; otherwise it is reading. One that moves no state of the table is
-// reading without a search.
+// reading without a order.
 #[tactic(auto, using(crate::proofs::Words::none_kept, crate::proofs::ChangingWords::unmoved_reading))]
 pub fn is_changing(file: &[u8], shape: Shape, operation: u16) -> bool
     ensures { result ≡ changing file.now shape operation }
@@ -184,6 +95,6 @@ pub fn is_changing(file: &[u8], shape: Shape, operation: u16) -> bool
     }
     let mut order = [0; 256];
     let mut number = [0; 256];
-    let count = meet_all(file, shape, &mut order, &mut number);
-    moves_met(file, shape, &order, count, operation)
+    let count = order::meet_all(file, shape, &mut order, &mut number);
+    moves_met(file, shape, &order[..usize::from(count)], operation)
 }
