@@ -11,7 +11,8 @@ use Rattle.std.proofs.Math.Bool.{and_assoc, and_comm}
 use Rattle.std.proofs.lemmas.List.{get_or-drop, get_or-take}
 use Rattle.laws.specs.Below.{all_below}
 use Rattle.laws.proofs.Listed.{all_same, all_listed}
-use Rattle.ring_desk.specs.Rings.{ring_count, length_of, kind_of, ring_fits}
+use Rattle.ring_desk.specs.Rings.{ring_count, length_of, kind_of, start_of, ring_fits}
+use Rattle.ring_desk.specs.Owner.{owns_between, owns}
 
 -- A word of the pair at a place.
 pub pair_word : (n : ℕ) (words : List ℕ) (place word : ℕ) → place < n → word < 2
@@ -28,6 +29,12 @@ pair_length rings place h = let at : 2 * place + 0 ≡ 2 * place = omega arith i
 
 pub pair_kind : (rings : List ℕ) (place : ℕ) → place < ring_count rings → get_or (get_or (first_chunks 2 (ring_count rings) rings) place []) 1 0 ≡ kind_of rings place
 pair_kind rings place h = pair_word (ring_count rings) rings place 1 h (omega arith)
+
+-- Whether the ring at a place owns a chainage, from where it starts and its pair.
+pub pair_owns : (rings : List ℕ) (chainage place : ℕ) → place < ring_count rings
+    → let pair = get_or (first_chunks 2 (ring_count rings) rings) place [] in
+    owns_between (start_of rings place) (start_of rings place + get_or pair 0 0) (get_or pair 1 0) chainage ≡ owns rings chainage place
+pair_owns rings chainage place h = rw (pair_length rings place h, pair_kind rings place h)
 
 pairs_long : (n : ℕ) (words : List ℕ) → length (first_chunks 2 n words) ≡ n
 pairs_long zero words = refl

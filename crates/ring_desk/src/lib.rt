@@ -58,7 +58,7 @@ fn owns_between(start: u64, end: u64, kind: u32, chainage: u64) -> bool
 }
 
 // The place of the first ring that owns a chainage, if one does.
-#[tactic(auto, using(laws::proofs::Lowest::lowest_none, crate::proofs::Ranges::fits_range))]
+#[tactic(auto, using(laws::proofs::Lowest::lowest_none, crate::proofs::Ranges::fits_range, crate::proofs::Ranges::listed, crate::proofs::Pairs::pair_length, crate::proofs::Pairs::pair_owns))]
 fn first_owner(rings: &[u32], chainage: u64) -> Option<usize>
     requires { rings_fit rings.now ≡ true }
     ensures { SomeIff result (first_owner rings.now chainage < ring_count rings.now) (first_owner rings.now chainage) }
