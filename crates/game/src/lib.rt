@@ -29,9 +29,7 @@ pub enum Verdict {
 fn is_target(targets: &[u8], state: u16) -> bool
     ensures { result ≡ is_target targets.now state }
 {
-    targets
-        .get(usize::from(state))
-        .is_some_and(|byte| *byte == 1)
+    targets.get(usize::from(state)) == Some(&1)
 }
 
 // Whether an answer is a yes.
