@@ -15,10 +15,9 @@ ghost use Rattle.drive_object.specs.Word.{word_of, ended_flags, refused_word, ch
 
 use cells::ceiling::Ceiling;
 use cells::{bit, ceiling};
-use game::ForceAnswer;
+use game::Verdict;
 use records::record::Task;
 use refusal::{Refusal, Written};
-use ring_desk::OwnerAnswer;
 use stepping::answer::{BeginAnswer, StartAnswer, StepAnswer};
 use table::Checked;
 use window::{LineAnswer, WindowAnswer};
@@ -131,12 +130,12 @@ fn ceiling_word(answer: Ceiling) -> u64
 }
 
 // The word of an owner.
-fn owner_word(answer: OwnerAnswer) -> u64
+fn owner_word(answer: Result<u16, Refusal>) -> u64
     ensures { result ≡ owner_word answer }
 {
     match answer {
-        OwnerAnswer::Ring(number) => word(0, 0, number, 0),
-        OwnerAnswer::Refused(cause) => refused_word(cause),
+        Ok(number) => word(0, 0, number, 0),
+        Err(cause) => refused_word(cause),
     }
 }
 
@@ -151,14 +150,14 @@ fn written_word(answer: Written) -> u64
 }
 
 // The word of force.
-fn force_word(answer: ForceAnswer) -> u64
+fn force_word(answer: Result<Verdict, Refusal>) -> u64
     ensures { result ≡ force_word answer }
 {
     match answer {
-        ForceAnswer::Reached => word(0, 3, 0, 0),
-        ForceAnswer::Wins(operation) => word(0, 1, operation, 0),
-        ForceAnswer::Loses => word(0, 0, 0, 0),
-        ForceAnswer::Refused(cause) => refused_word(cause),
+        Ok(Verdict::Reached) => word(0, 3, 0, 0),
+        Ok(Verdict::Wins(operation)) => word(0, 1, operation, 0),
+        Ok(Verdict::Loses) => word(0, 0, 0, 0),
+        Err(cause) => refused_word(cause),
     }
 }
 
