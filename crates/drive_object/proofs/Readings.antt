@@ -4,6 +4,7 @@ use mathlib.Core.Path.{◌≡◌, refl, ap, ◌∙◌}
 use mathlib.Core.Bool.{Bool, true, false}
 use mathlib.Core.Logic.{◌⊎◌, inl, inr}
 use mathlib.Core.List.{List}
+use Rattle.std.specs.Prelude.{Result, Ok, Err}
 use Prim.Native.Nat.{ℕ, ◌*◌, ◌/◌, ◌%◌, ◌<◌, ◌≤◌}
 use native.Mathlib.Omega.{arith}
 use Rattle.laws.specs.Bit.{bit}
@@ -25,10 +26,8 @@ use Rattle.window.specs.Serve.{window_said}
 use Rattle.window.specs.Line.{line_said}
 use Rattle.ring_desk.specs.Owner.{owner_of, owner_said}
 use Rattle.ring_desk.proofs.Answers.{owner_answered}
-use Rattle.ring_desk.specs.declared.OwnerAnswer.{OwnerAnswer}
-use Rattle.ring_desk.specs.declared.OwnerAnswer.TheVariants as owner
-use Rattle.game.specs.declared.ForceAnswer.{ForceAnswer}
-use Rattle.game.specs.declared.ForceAnswer.TheVariants as force
+use Rattle.game.specs.declared.Verdict.{Verdict}
+use Rattle.game.specs.declared.Verdict.TheVariants as verdict
 use Rattle.game.specs.Force.{force_of, force_said, is_reached}
 use Rattle.game.proofs.Theorem.{operation_below}
 use Rattle.drive_object.specs.Word.{word_of, ended_flags, refusal_in, flags_in, first_flag_in, second_flag_in, low_in, high_in, value_at, refused_word, check_word, start_word, answer_word, ceiling_word, window_word, line_word, owner_word, written_word, force_word}
@@ -105,20 +104,20 @@ drive_ceiling_read n = (
 
 -- An owner's word shows its number and the ring's; the word of a call that writes shows its number and the length. Neither has a
 -- flag.
-owner_read : (a : OwnerAnswer) → value_at (owner_said a) 0 < 65536 → let w = owner_word a in
+owner_read : (a : Result ℕ Refusal) → value_at (owner_said a) 0 < 65536 → let w = owner_word a in
     (refusal_in w ≡ (owner_said a).number) × (flags_in w ≡ 0) × (low_in w ≡ value_at (owner_said a) 0) × (high_in w ≡ 0)
-owner_read (owner.Ring number) h = parts_read 0 0 number 0 (omega arith) (omega arith) h
-owner_read (owner.Refused c) h = refused_read c
+owner_read (Ok number) h = parts_read 0 0 number 0 (omega arith) (omega arith) h
+owner_read (Err c) h = refused_read c
 
 pub desk_owner_read : (rings : List ℕ) (chainage : ℕ) → let a = owner_of rings chainage in let w = owner_word a in
     (refusal_in w ≡ (owner_said a).number) × (flags_in w ≡ 0) × (low_in w ≡ value_at (owner_said a) 0) × (high_in w ≡ 0)
 desk_owner_read rings chainage = owner_read (owner_of rings chainage) (small (owner_of rings chainage) refl)
   where
-    small : (a : OwnerAnswer) → owner_of rings chainage ≡ a → value_at (owner_said a) 0 < 65536
-    small (owner.Ring number) e =
+    small : (a : Result ℕ Refusal) → owner_of rings chainage ≡ a → value_at (owner_said a) 0 < 65536
+    small (Ok number) e =
         let (range, (place, same, found)) = ((owner_answered rings chainage).owner number).0 (ap owner_said e) in
         omega (arith, same, range.few, found.listed)
-    small (owner.Refused c) e = omega arith
+    small (Err c) e = omega arith
 
 pub written_read : (a : Result ℕ Refusal) → let w = written_word a in
     (refusal_in w ≡ (written_said a).number) × (flags_in w ≡ 0) × (low_in w ≡ 0) × (high_in w ≡ value_at (written_said a) 0)
@@ -126,17 +125,17 @@ written_read (Ok k) = parts_read 0 0 0 k (omega arith) (omega arith) (omega arit
 written_read (Err c) = refused_read c
 
 -- Force shows its number, whether it is a yes, whether no move is needed for it, the operation, and nothing else.
-abbrev ForceShown : ForceAnswer → Type 0
+abbrev ForceShown : Result Verdict Refusal → Type 0
 ForceShown a = let w = force_word a in
     (refusal_in w ≡ (force_said a).number) × (first_flag_in w ≡ value_at (force_said a) 0) × (second_flag_in w ≡ bit (is_reached a)) × (flags_in w < 4) × (low_in w ≡ value_at (force_said a) 1) × (high_in w ≡ 0)
 
-force_read : (a : ForceAnswer) → value_at (force_said a) 1 < 65536 → ForceShown a
-force_read force.Reached h = (refl, refl, refl, omega arith, refl, refl)
-force_read (force.Wins o) h =
+force_read : (a : Result Verdict Refusal) → value_at (force_said a) 1 < 65536 → ForceShown a
+force_read (Ok verdict.Reached) h = (refl, refl, refl, omega arith, refl, refl)
+force_read (Ok (verdict.Wins o)) h =
     let (number, flags, low, high) = parts_read 0 1 o 0 (omega arith) (omega arith) h in
     (number, ap (λ f. f % 2) flags, ap (λ f. f / 2 % 2) flags, omega (arith, flags), low, high)
-force_read force.Loses h = (refl, refl, refl, omega arith, refl, refl)
-force_read (force.Refused c) h =
+force_read (Ok verdict.Loses) h = (refl, refl, refl, omega arith, refl, refl)
+force_read (Err c) h =
     let (number, flags, low, high) = refused_read c in
     (number, ap (λ f. f % 2) flags, ap (λ f. f / 2 % 2) flags, omega (arith, flags), low, high)
 

@@ -1,5 +1,5 @@
 -- The answers of the exported calls, each as one word of 64 bits: the number and the values that it says.
-use Rattle.std.specs.Prelude.{Bool, ℕ, ◌+◌, ◌*◌, ◌/◌, ◌%◌, get_or, Result, ⊤}
+use Rattle.std.specs.Prelude.{Bool, ℕ, ◌+◌, ◌*◌, ◌/◌, ◌%◌, get_or, Result, Ok, Err, ⊤}
 use Rattle.laws.specs.Bit.{bit}
 use Rattle.refusal.specs.Number.{Said, refused}
 use Rattle.refusal.specs.Written.{written_said}
@@ -10,10 +10,9 @@ use Rattle.machine.specs.Calls as paper
 use Rattle.stepping.specs.Call.{start_said, begin_said, step_said}
 use Rattle.window.specs.Serve.{window_said}
 use Rattle.window.specs.Line.{line_said}
-use Rattle.ring_desk.specs.declared.OwnerAnswer.{OwnerAnswer}
 use Rattle.ring_desk.specs.Owner.{owner_said}
-use Rattle.game.specs.declared.ForceAnswer.{ForceAnswer}
-use Rattle.game.specs.declared.ForceAnswer.TheVariants as force
+use Rattle.game.specs.declared.Verdict.{Verdict}
+use Rattle.game.specs.declared.Verdict.TheVariants as verdict
 use Rattle.game.specs.Force.{force_said}
 use Rattle.table.specs.declared.Shape.{Shape}
 use Rattle.stepping.specs.declared.answer.Progress.{Progress}
@@ -28,11 +27,11 @@ abbrev pub ended_flags : Bool → ℕ
 ended_flags moved = 1 + 2 * bit moved
 
 -- The flags of force: bit 0 for a yes, and bit 1 too if no move is needed. All other answers have none.
-abbrev pub force_flags : ForceAnswer → ℕ
-force_flags force.Reached = 3
-force_flags (force.Wins _) = 1
-force_flags force.Loses = 0
-force_flags (force.Refused _) = 0
+abbrev pub force_flags : Result Verdict Refusal → ℕ
+force_flags (Ok verdict.Reached) = 3
+force_flags (Ok (verdict.Wins _)) = 1
+force_flags (Ok verdict.Loses) = 0
+force_flags (Err _) = 0
 
 -- What a kernel reads from a word.
 abbrev pub refusal_in : ℕ → ℕ
@@ -97,7 +96,7 @@ abbrev pub ceiling_word : Result ℕ Refusal → ℕ
 ceiling_word a = word_of (ceiling_said a).number 0 0 (value_at (ceiling_said a) 0)
 
 -- The number of an owner is the low number.
-abbrev pub owner_word : OwnerAnswer → ℕ
+abbrev pub owner_word : Result ℕ Refusal → ℕ
 owner_word a = word_of (owner_said a).number 0 (value_at (owner_said a) 0) 0
 
 -- The length of what was written is the high number.
@@ -105,5 +104,5 @@ abbrev pub written_word : Result ℕ Refusal → ℕ
 written_word a = word_of (written_said a).number 0 0 (value_at (written_said a) 0)
 
 -- Force says yes in the flags, and has the operation as the low number.
-abbrev pub force_word : ForceAnswer → ℕ
+abbrev pub force_word : Result Verdict Refusal → ℕ
 force_word a = word_of (force_said a).number (force_flags a) (value_at (force_said a) 1) 0

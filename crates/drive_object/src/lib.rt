@@ -14,10 +14,9 @@ ghost use Rattle.game.specs.Force.{force_of};
 ghost use Rattle.drive_object.specs.Word.{word_of, ended_flags, refused_word, check_word, start_word, begin_word, step_word, window_word, line_word, ceiling_word, owner_word, written_word, force_word};
 
 use cells::{bit, ceiling};
-use game::ForceAnswer;
+use game::Verdict;
 use records::record::Task;
 use refusal::Refusal;
-use ring_desk::OwnerAnswer;
 use stepping::answer::Progress;
 use table::Shape;
 use window::LineLevel;
@@ -110,24 +109,24 @@ fn number_word(answer: Result<u32, Refusal>) -> u64
 }
 
 // The word of an owner.
-fn owner_word(answer: OwnerAnswer) -> u64
+fn owner_word(answer: Result<u16, Refusal>) -> u64
     ensures { result ≡ owner_word answer }
 {
     match answer {
-        OwnerAnswer::Ring(number) => word(0, 0, number, 0),
-        OwnerAnswer::Refused(cause) => refused_word(cause),
+        Ok(number) => word(0, 0, number, 0),
+        Err(cause) => refused_word(cause),
     }
 }
 
 // The word of force.
-fn force_word(answer: ForceAnswer) -> u64
+fn force_word(answer: Result<Verdict, Refusal>) -> u64
     ensures { result ≡ force_word answer }
 {
     match answer {
-        ForceAnswer::Reached => word(0, 3, 0, 0),
-        ForceAnswer::Wins(operation) => word(0, 1, operation, 0),
-        ForceAnswer::Loses => word(0, 0, 0, 0),
-        ForceAnswer::Refused(cause) => refused_word(cause),
+        Ok(Verdict::Reached) => word(0, 3, 0, 0),
+        Ok(Verdict::Wins(operation)) => word(0, 1, operation, 0),
+        Ok(Verdict::Loses) => word(0, 0, 0, 0),
+        Err(cause) => refused_word(cause),
     }
 }
 

@@ -3,12 +3,12 @@ use Rattle.std.specs.Prelude.{Result, Ok, Err}
 use mathlib.Core.Path.{◌≡◌, ap}
 use mathlib.Core.Bool.{true, false}
 use mathlib.Core.List.{List}
+use Rattle.std.specs.Prelude.{Ok, Err}
 use Prim.Native.Nat.{ℕ}
 use Rattle.refusal.specs.declared.Refusal.{Refusal}
 use Rattle.refusal.specs.declared.Refusal.TheVariants.{Question}
 use Rattle.table.specs.declared.Shape.{Shape}
 use Rattle.table.specs.Check.{check_of}
-use Rattle.game.specs.declared.ForceAnswer.TheVariants.{Refused}
 use Rattle.game.specs.Force.{question_fits, turn_of, when_checked, force_of}
 
 module _ (file : List ℕ) (state : ℕ) (targets : List ℕ) (moves : ℕ) where
@@ -16,12 +16,12 @@ module _ (file : List ℕ) (state : ℕ) (targets : List ℕ) (moves : ℕ) wher
   unfolding force_of
   forced_checked checked e = ap (when_checked file state targets moves) e
 
-  pub forced_refused : (cause : Refusal) → check_of file ≡ Err cause → force_of file state targets moves ≡ Refused cause
+  pub forced_refused : (cause : Refusal) → check_of file ≡ Err cause → force_of file state targets moves ≡ Err cause
   forced_refused cause e = forced_checked (Err cause) e
 
   module _ (shape : Shape) (e : check_of file ≡ Ok shape) where
-    pub forced_unfit : question_fits shape state targets moves ≡ false → force_of file state targets moves ≡ Refused Question
+    pub forced_unfit : question_fits shape state targets moves ≡ false → force_of file state targets moves ≡ Err Question
     forced_unfit f = rw (forced_checked (Ok shape) e, f)
 
-    pub forced_turn : question_fits shape state targets moves ≡ true → force_of file state targets moves ≡ turn_of file shape targets moves state
+    pub forced_turn : question_fits shape state targets moves ≡ true → force_of file state targets moves ≡ Ok (turn_of file shape targets moves state)
     forced_turn f = rw (forced_checked (Ok shape) e, f)

@@ -4,6 +4,7 @@ use mathlib.Core.Path.{◌≡◌, refl, sym, ap, subst, ◌∙◌}
 use mathlib.Core.Bool.{Bool, true, false}
 use mathlib.Core.Logic.{◌⊎◌, inl, inr, ⊎_elim}
 use mathlib.Core.List.{List, [], ◌∷◌}
+use Rattle.std.specs.Prelude.{Result, Ok, Err}
 use Prim.Native.Nat.{ℕ, zero, suc, ◌+◌, ◌-◌, ◌<◌, ◌≤◌}
 use native.Mathlib.Omega.{arith}
 use native.Mathlib.Numerals.{sub-one}
@@ -23,8 +24,8 @@ use Rattle.table.proofs.Fitting.{refused}
 use Rattle.table.proofs.Accepted.{accepted_fitting, accepted_next}
 use Rattle.table.proofs.Answers.{check_answered}
 use Rattle.reach.specs.Walk.{next_of}
-use Rattle.game.specs.declared.ForceAnswer.{ForceAnswer}
-use Rattle.game.specs.declared.ForceAnswer.TheVariants.{Reached, Wins, Loses, Refused}
+use Rattle.game.specs.declared.Verdict.{Verdict}
+use Rattle.game.specs.declared.Verdict.TheVariants.{Reached, Wins, Loses}
 use Rattle.game.specs.Turns.{is_target, ours, theirs}
 use Rattle.game.specs.Force.{question_fits, found, turn_of, is_yes, force_of, force_said}
 use Rattle.game.specs.Play.{Target, Forces, Avoids}
@@ -61,11 +62,11 @@ module _ (file : List ℕ) (shape : Shape) (state : ℕ) (targets : List ℕ) (m
   some_operation : 1 ≤ shape.operations
   some_operation = (accepted_fitting file shape e).some_operation
 
-  answer_is : force_of file state targets moves ≡ turn_of file shape targets moves state
+  answer_is : force_of file state targets moves ≡ Ok (turn_of file shape targets moves state)
   answer_is = forced_turn file state targets moves shape e (asked_fits shape targets state moves asked)
 
-  said_is : {answer : ForceAnswer} → turn_of file shape targets moves state ≡ answer → force_said (force_of file state targets moves) ≡ force_said answer
-  said_is f = ap force_said (answer_is ∙ f)
+  said_is : {answer : Verdict} → turn_of file shape targets moves state ≡ answer → force_said (force_of file state targets moves) ≡ force_said (Ok answer)
+  said_is f = ap force_said (answer_is ∙ ap Ok f)
 
   at_target : is_target targets state ≡ true → ForceAnswered file shape state targets moves
   at_target t =
@@ -221,7 +222,7 @@ module _ (file : List ℕ) (state : ℕ) (targets : List ℕ) (moves : ℕ) wher
   known_asked : {v : ℕ} {vs : List ℕ} → said ≡ accepted (v ∷ vs) → InRange
   known_asked {v} {vs} f = by (check_of file) refl
     where
-      answered : {cause : Refusal} {A : Type 0} → force_of file state targets moves ≡ Refused cause → A
+      answered : {cause : Refusal} {A : Type 0} → force_of file state targets moves ≡ Err cause → A
       answered r = let z : 0 ≡ suc (length vs) = ap (λ (s : Said). length s.values) (sym (ap force_said r) ∙ f) in absurd (omega arith)
 
       asked : (shape : Shape) → check_of file ≡ Ok shape → (b : Bool) → question_fits shape state targets moves ≡ b → InRange
@@ -233,11 +234,10 @@ module _ (file : List ℕ) (state : ℕ) (targets : List ℕ) (moves : ℕ) wher
       by (Ok shape) e = asked shape e (question_fits shape state targets moves) refl
 
 -- A yes of a turn is a yes of the call.
-yes_said : (a : ForceAnswer) → is_yes a ≡ true → SaysYes (force_said a)
+yes_said : (a : Verdict) → is_yes a ≡ true → SaysYes (force_said (Ok a))
 yes_said Reached e = inl refl
 yes_said (Wins operation) e = inr (operation, refl)
 yes_said Loses e = clash e refl
-yes_said (Refused cause) e = clash e refl
 
 -- What forces with so many moves forces with one more.
 forces_more : {file : List ℕ} {shape : Shape} {targets : List ℕ} {moves state operation : ℕ} → Forces file shape targets moves state operation → Forces file shape targets (moves + 1) state operation
@@ -307,12 +307,12 @@ asked_again file shape state targets left operation e won =
 pub operation_below : (file : List ℕ) (state : ℕ) (targets : List ℕ) (moves : ℕ) → get_or (force_said (force_of file state targets moves)).values 1 0 < 65536
 operation_below file state targets moves = by (force_of file state targets moves) refl
   where
-    by : (a : ForceAnswer) → force_of file state targets moves ≡ a → get_or (force_said a).values 1 0 < 65536
-    by Reached f = omega arith
-    by (Wins operation) f =
+    by : (a : Result Verdict Refusal) → force_of file state targets moves ≡ a → get_or (force_said a).values 1 0 < 65536
+    by (Ok Reached) f = omega arith
+    by (Ok (Wins operation)) f =
         let won = ap force_said f in
         let (shape, e, asked) = known_asked file state targets moves won in
         let (_, known, _, _) = ((answered_by_strategies file shape state targets moves e asked).wins operation).0 won in
         omega (arith, known, (accepted_fitting file shape e).few_operations)
-    by Loses f = omega arith
-    by (Refused cause) f = omega arith
+    by (Ok Loses) f = omega arith
+    by (Err cause) f = omega arith

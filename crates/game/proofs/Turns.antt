@@ -13,7 +13,7 @@ use Rattle.laws.proofs.Lowest.{lowest_at, lowest_none, lowest_any}
 use Rattle.laws.proofs.Positive.{from_one}
 use Rattle.table.specs.declared.Shape.{Shape}
 use Rattle.reach.specs.Walk.{next_of}
-use Rattle.game.specs.declared.ForceAnswer.TheVariants.{Reached, Wins, Loses}
+use Rattle.game.specs.declared.Verdict.TheVariants.{Reached, Wins, Loses}
 use Rattle.game.specs.Turns.{is_target, ours, theirs}
 use Rattle.game.specs.Force.{found, turn_of, is_yes}
 

@@ -2,13 +2,14 @@
 use Rattle.std.specs.Prelude.{Bool, true, false, cond, ◌&&◌, List, [], ◌∷◌, ℕ, zero, suc, eqb, leb, ltb, length, get_or, Result, Ok, Err}
 use Rattle.laws.specs.Below.{all_below}
 use Rattle.laws.specs.Lowest.{lowest_below}
+use Rattle.refusal.specs.declared.Refusal.{Refusal}
 use Rattle.refusal.specs.declared.Refusal.TheVariants.{Question}
 use Rattle.refusal.specs.Number.{Said, accepted, refused}
 use Rattle.table.specs.declared.Shape.{Shape}
 use Rattle.table.specs.Check.{check_of}
 use Rattle.reach.specs.Walk.{next_of}
-use Rattle.game.specs.declared.ForceAnswer.{ForceAnswer}
-use Rattle.game.specs.declared.ForceAnswer.TheVariants.{Reached, Wins, Loses, Refused}
+use Rattle.game.specs.declared.Verdict.{Verdict}
+use Rattle.game.specs.declared.Verdict.TheVariants.{Reached, Wins, Loses}
 use Rattle.game.specs.Turns.{is_target, theirs}
 use Rattle.refusal.specs.declared.Refusal.{Refusal}
 
@@ -25,46 +26,45 @@ unfoldable pub question_fits : Shape → (state : ℕ) (targets : List ℕ) (mov
 question_fits shape state targets moves = leb 1 moves && leb moves most_moves && ltb state shape.states && targets_fit shape targets
 
 -- A win by the operation if it is one of so many, else a loss.
-abbrev pub found : (operations operation : ℕ) → ForceAnswer
+abbrev pub found : (operations operation : ℕ) → Verdict
 found operations operation = cond (ltb operation operations) (Wins operation) Loses
 
 -- The lowest operation of the jack console that leads to a turn of the link that is won; with no move left there is none.
-abbrev pub opening : (file : List ℕ) (shape : Shape) (targets : List ℕ) (left state : ℕ) → ForceAnswer
+abbrev pub opening : (file : List ℕ) (shape : Shape) (targets : List ℕ) (left state : ℕ) → Verdict
 opening file shape targets zero state = Loses
 opening file shape targets (suc left) state =
     found shape.operations (lowest_below shape.operations (λ operation. theirs file shape targets left (next_of file shape state operation)))
 
 -- The answer of a turn of the jack console, with so many moves left.
-unfoldable pub turn_of : (file : List ℕ) (shape : Shape) (targets : List ℕ) (left state : ℕ) → ForceAnswer
+unfoldable pub turn_of : (file : List ℕ) (shape : Shape) (targets : List ℕ) (left state : ℕ) → Verdict
 turn_of file shape targets left state = cond (is_target targets state) Reached (opening file shape targets left state)
 
 -- The answer is a yes.
-abbrev pub is_yes : ForceAnswer → Bool
+abbrev pub is_yes : Verdict → Bool
 is_yes Reached = true
 is_yes (Wins _) = true
 is_yes Loses = false
-is_yes (Refused _) = false
 
 -- It is a yes that needs no move.
-abbrev pub is_reached : ForceAnswer → Bool
-is_reached Reached = true
-is_reached (Wins _) = false
-is_reached Loses = false
-is_reached (Refused _) = false
+abbrev pub is_reached : Result Verdict Refusal → Bool
+is_reached (Ok Reached) = true
+is_reached (Ok (Wins _)) = false
+is_reached (Ok Loses) = false
+is_reached (Err _) = false
 
 -- Where the tests for causes 1 to 4 gave this answer: their refusal, or cause 19, or the answer of the first turn.
-abbrev pub when_checked : (file : List ℕ) (state : ℕ) (targets : List ℕ) (moves : ℕ) → Result Shape Refusal → ForceAnswer
+abbrev pub when_checked : (file : List ℕ) (state : ℕ) (targets : List ℕ) (moves : ℕ) → Result Shape Refusal → Result Verdict Refusal
 when_checked file state targets moves (Ok shape) =
-    cond (question_fits shape state targets moves) (turn_of file shape targets moves state) (Refused Question)
-when_checked file state targets moves (Err cause) = Refused cause
+    cond (question_fits shape state targets moves) (Ok (turn_of file shape targets moves state)) (Err Question)
+when_checked file state targets moves (Err cause) = Err cause
 
 -- Causes 1 to 4, on all entries, then cause 19, or the answer of the first turn.
-unfoldable pub force_of : (file : List ℕ) (state : ℕ) (targets : List ℕ) (moves : ℕ) → ForceAnswer
+unfoldable pub force_of : (file : List ℕ) (state : ℕ) (targets : List ℕ) (moves : ℕ) → Result Verdict Refusal
 force_of file state targets moves = when_checked file state targets moves (check_of file)
 
 -- What an answer says: 1 for yes, with the operation if a move is needed, or 0 for no; or the number of the cause.
-abbrev pub force_said : ForceAnswer → Said
-force_said Reached = accepted (1 ∷ [])
-force_said (Wins operation) = accepted (1 ∷ operation ∷ [])
-force_said Loses = accepted (0 ∷ [])
-force_said (Refused cause) = refused cause
+abbrev pub force_said : Result Verdict Refusal → Said
+force_said (Ok Reached) = accepted (1 ∷ [])
+force_said (Ok (Wins operation)) = accepted (1 ∷ operation ∷ [])
+force_said (Ok Loses) = accepted (0 ∷ [])
+force_said (Err cause) = refused cause

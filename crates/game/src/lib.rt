@@ -13,16 +13,15 @@ use table::Shape;
 
 const MOST_MOVES: usize = 4;
 
-// What the question is answered with.
+// Whether the jack console can force a target state.
 #[derive(Clone, Copy)]
-pub enum ForceAnswer {
+pub enum Verdict {
     // Yes: the state is a target at the outset, and no move is needed.
     Reached,
     // Yes: this is the lowest operation that wins.
     Wins(u16),
     // No: no operation wins.
     Loses,
-    Refused(Refusal),
 }
 
 // Whether a state is a target; past the targets' end none is.
@@ -30,47 +29,35 @@ pub enum ForceAnswer {
 fn is_target(targets: &[u8], state: u16) -> bool
     ensures { result ≡ is_target targets.now state }
 {
-    let at = state as usize;
-    if at < targets.len() {
-        return targets[at] == 1;
-    }
-    false
+    targets.get(usize::from(state)) == Some(&1)
 }
 
 // Whether an answer is a yes.
-fn is_yes(answer: ForceAnswer) -> bool
+fn is_yes(answer: Verdict) -> bool
     ensures { result ≡ is_yes answer }
 {
-    match answer {
-        ForceAnswer::Reached => true,
-        ForceAnswer::Wins(_) => true,
-        ForceAnswer::Loses => false,
-        ForceAnswer::Refused(_) => false,
-    }
+    matches!(answer, Verdict::Reached | Verdict::Wins(_))
 }
 
 // The jack console's turn: some operation must lead to a turn of the link that is won.
 #[cycle(turns)]
 #[tactic(auto, using(crate::proofs::Turns::reached, crate::proofs::Turns::turn_none, crate::proofs::Turns::turn_wins, crate::proofs::Turns::turn_loses))]
-fn our_turn(file: &[u8], shape: Shape, targets: &[u8], left: usize, state: u16) -> ForceAnswer
+fn our_turn(file: &[u8], shape: Shape, targets: &[u8], left: usize, state: u16) -> Verdict
     ensures { result ≡ turn_of file.now shape targets.now left state }
 {
     if is_target(targets, state) {
-        return ForceAnswer::Reached;
+        return Verdict::Reached;
     }
     if left == 0 {
-        return ForceAnswer::Loses;
+        return Verdict::Loses;
     }
-    let operations = shape.operations;
-    let mut operation: u16 = 0;
-    while operation < operations {
+    for operation in 0..shape.operations {
         let entry = table::read_entry(file, shape, state, operation);
         if their_turn(file, shape, targets, left - 1, entry.next) {
-            return ForceAnswer::Wins(operation);
+            return Verdict::Wins(operation);
         }
-        operation += 1;
     }
-    ForceAnswer::Loses
+    Verdict::Loses
 }
 
 // The link's turn: every operation must lead to a turn of the jack console that is won.
@@ -85,34 +72,21 @@ fn their_turn(file: &[u8], shape: Shape, targets: &[u8], left: usize, state: u16
     if left == 0 {
         return false;
     }
-    let operations = shape.operations;
-    let mut operation: u16 = 0;
-    while operation < operations {
+    for operation in 0..shape.operations {
         let entry = table::read_entry(file, shape, state, operation);
         if !is_yes(our_turn(file, shape, targets, left - 1, entry.next)) {
             return false;
         }
-        operation += 1;
     }
     true
 }
 
 // Whether the targets are a byte for each state, 0 or 1.
-#[tactic(auto, using(crate::proofs::Questions::byte_unfit, crate::proofs::Questions::bytes_fit), unfolding(crate::specs::Force::targets_fit))]
+#[tactic(auto, using(laws::proofs::Chains::all_any), unfolding(crate::specs::Force::targets_fit))]
 fn targets_fit(shape: Shape, targets: &[u8]) -> bool
     ensures { result ≡ targets_fit shape targets.now }
 {
-    if targets.len() != shape.states as usize {
-        return false;
-    }
-    let mut i = 0;
-    while i < targets.len() {
-        if 1 < targets[i] {
-            return false;
-        }
-        i += 1;
-    }
-    true
+    targets.len() == usize::from(shape.states) && targets.iter().all(|byte| *byte <= 1)
 }
 
 // Whether moves, state and targets are in range: cause 19 does not hold.
@@ -120,32 +94,20 @@ fn targets_fit(shape: Shape, targets: &[u8]) -> bool
 fn question_fits(shape: Shape, state: usize, targets: &[u8], moves: usize) -> bool
     ensures { result ≡ question_fits shape state targets.now moves }
 {
-    if moves < 1 {
-        return false;
-    }
-    if MOST_MOVES < moves {
-        return false;
-    }
-    if shape.states as usize <= state {
-        return false;
-    }
-    targets_fit(shape, targets)
+    1 <= moves
+        && moves <= MOST_MOVES
+        && state < usize::from(shape.states)
+        && targets_fit(shape, targets)
 }
 
 // The first of causes 1 to 4 that holds, 4 on all entries, or cause 19, or whether the jack console can force a target.
 #[tactic(auto, using(crate::proofs::Questions::fits_asked, crate::proofs::Forced::forced_refused, crate::proofs::Forced::forced_unfit, crate::proofs::Forced::forced_turn))]
-pub fn force(file: &[u8], state: usize, targets: &[u8], moves: usize) -> ForceAnswer
+pub fn force(file: &[u8], state: usize, targets: &[u8], moves: usize) -> Result<Verdict, Refusal>
     ensures { result ≡ force_of file.now state targets.now moves }
 {
-    let checked = table::check(file);
-    match checked {
-        Err(cause) => ForceAnswer::Refused(cause),
-        Ok(shape) => {
-            if question_fits(shape, state, targets, moves) {
-                our_turn(file, shape, targets, moves, state as u16)
-            } else {
-                ForceAnswer::Refused(Refusal::Question)
-            }
-        }
+    let shape = table::check(file)?;
+    if !question_fits(shape, state, targets, moves) {
+        return Err(Refusal::Question);
     }
+    Ok(our_turn(file, shape, targets, moves, state as u16))
 }

@@ -1,6 +1,7 @@
 pub mod Clash
 pub mod Choice
 pub mod Below
+pub mod Listed
 pub mod Decision
 pub mod Bits
 pub mod Update

@@ -1,5 +1,6 @@
 -- What the call for an owner answers, in both directions.
 use mathlib.Core.Path.{◌≡◌, refl, sym, ap, ◌∙◌}
+use Rattle.std.specs.Prelude.{Result, Ok, Err}
 use mathlib.Core.Bool.{Bool, true, false}
 use mathlib.Core.Logic.{◌↔◌}
 use mathlib.Core.List.{List, [], ◌∷◌}
@@ -9,11 +10,10 @@ use native.Mathlib.Omega.{arith}
 use borrow.Author.Tests.{lt-ltb, le-ltb}
 use Rattle.laws.proofs.Clash.{clash}
 use Rattle.laws.proofs.Lowest.{Found, lowest_found}
+use Rattle.refusal.specs.declared.Refusal.{Refusal}
 use Rattle.refusal.specs.declared.Refusal.TheVariants.{Rings, Chainage}
 use Rattle.refusal.specs.Number.{Said, accepted, refused_by}
 use Rattle.refusal.proofs.Numbers.{numbers_apart, values_same}
-use Rattle.ring_desk.specs.declared.OwnerAnswer.{OwnerAnswer}
-use Rattle.ring_desk.specs.declared.OwnerAnswer.TheVariants.{Ring, Refused}
 use Rattle.ring_desk.specs.Rings.{ring_count, rings_fit}
 use Rattle.ring_desk.specs.Owner.{owns, first_owner, owner_of, owner_said}
 use Rattle.ring_desk.specs.Statement.{InRange, Owns, Owner, Unowned, OwnerAnswered}
@@ -27,9 +27,9 @@ no_range rings e range = clash (range_fits rings range) e
 module _ (rings : List ℕ) (c : ℕ) where
   -- The three ways to answer.
   data Known : Type 0 where
-    outside : (InRange rings → ⊥) → owner_of rings c ≡ Refused Rings → Known
-    owned : InRange rings → (place : ℕ) → Owner rings place c → owner_of rings c ≡ Ring (place + 1) → Known
-    unowned : InRange rings → Unowned rings c → owner_of rings c ≡ Refused Chainage → Known
+    outside : (InRange rings → ⊥) → owner_of rings c ≡ Err Rings → Known
+    owned : InRange rings → (place : ℕ) → Owner rings place c → owner_of rings c ≡ Ok (place + 1) → Known
+    unowned : InRange rings → Unowned rings c → owner_of rings c ≡ Err Chainage → Known
 
   module _ (fits : rings_fit rings ≡ true) where
     range : InRange rings
@@ -70,7 +70,7 @@ module _ (rings : List ℕ) (c : ℕ) where
       by (no n) (yes h) = absurd (a.lowest other h b.owned)
       by (no n) (no m) = omega arith
 
-  said : {a : OwnerAnswer} → owner_of rings c ≡ a → {s : Said} → owner_said (owner_of rings c) ≡ s → owner_said a ≡ s
+  said : {a : Result ℕ Refusal} → owner_of rings c ≡ a → {s : Said} → owner_said (owner_of rings c) ≡ s → owner_said a ≡ s
   said e f = ap owner_said (sym e) ∙ f
 
   range_answer : Known → (owner_said (owner_of rings c) ≡ refused_by 14) ↔ (InRange rings → ⊥)

@@ -1,10 +1,9 @@
 -- docs/FORMATS.md, "The ring desk": which ring owns a chainage, and what the call answers.
-use Rattle.std.specs.Prelude.{Bool, cond, ◌&&◌, ◌||◌, List, [], ◌∷◌, ℕ, ◌+◌, leb, ltb, eqb}
+use Rattle.std.specs.Prelude.{Bool, cond, ◌&&◌, ◌||◌, List, [], ◌∷◌, ℕ, ◌+◌, leb, ltb, eqb, Result, Ok, Err}
 use Rattle.laws.specs.Lowest.{lowest_below}
+use Rattle.refusal.specs.declared.Refusal.{Refusal}
 use Rattle.refusal.specs.declared.Refusal.TheVariants.{Rings, Chainage}
 use Rattle.refusal.specs.Number.{Said, accepted, refused}
-use Rattle.ring_desk.specs.declared.OwnerAnswer.{OwnerAnswer}
-use Rattle.ring_desk.specs.declared.OwnerAnswer.TheVariants.{Ring, Refused}
 use Rattle.ring_desk.specs.Rings.{key, ring_count, kind_of, start_of, end_of, rings_fit}
 
 -- A ring between these chainages owns its start and what follows up to its end, and its end if it is a key ring.
@@ -20,13 +19,13 @@ abbrev pub first_owner : List ℕ → ℕ → ℕ
 first_owner rings chainage = lowest_below (ring_count rings) (owns rings chainage)
 
 -- The first of causes 14 and 15 that holds, or the number of the owner.
-unfoldable pub owner_of : List ℕ → ℕ → OwnerAnswer
+unfoldable pub owner_of : List ℕ → ℕ → Result ℕ Refusal
 owner_of rings chainage =
     cond (rings_fit rings)
-    (cond (ltb (first_owner rings chainage) (ring_count rings)) (Ring (first_owner rings chainage + 1)) (Refused Chainage))
-    (Refused Rings)
+    (cond (ltb (first_owner rings chainage) (ring_count rings)) (Ok (first_owner rings chainage + 1)) (Err Chainage))
+    (Err Rings)
 
 -- What an answer says: the ring's number, or the number of the cause.
-abbrev pub owner_said : OwnerAnswer → Said
-owner_said (Ring number) = accepted (number ∷ [])
-owner_said (Refused cause) = refused cause
+abbrev pub owner_said : Result ℕ Refusal → Said
+owner_said (Ok number) = accepted (number ∷ [])
+owner_said (Err cause) = refused cause

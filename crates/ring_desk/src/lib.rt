@@ -2,9 +2,9 @@
 // desk"). A list of rings has two words a ring: its length in millimetres, and its kind.
 #![tactic(auto)]
 
-ghost use Rattle.std.specs.Prelude.{◌≡◌, true, ◌+◌, ◌*◌, ◌<◌, ◌≤◌};
+ghost use Rattle.std.specs.Prelude.{◌≡◌, true, ◌+◌, ◌*◌, ◌<◌, ◌≤◌, get_or, SomeIff};
+ghost use Rattle.std.specs.List.{list_all};
 ghost use Rattle.std.proofs.lemmas.List.Edits.{sets};
-ghost use Rattle.laws.specs.Below.{all_below};
 ghost use Rattle.table_writer.specs.Written.{state_bytes, entries_of};
 ghost use Rattle.ring_desk.specs.Rings.{most_rings, ring_count, length_of, kind_of, ring_fits, rings_fit};
 ghost use Rattle.ring_desk.specs.Owner.{owns_between, first_owner, owner_of};
@@ -25,75 +25,28 @@ const OPERATIONS: u16 = 3;
 // The bytes of the entries of one state.
 const STATE_BYTES: u32 = 6;
 
-// What the question for an owner is answered.
-#[derive(Clone, Copy)]
-pub enum OwnerAnswer {
-    // The ring's number, counted from 1.
-    Ring(u16),
-    Refused(Refusal),
-}
-
 // Whether a ring's length and kind are in range.
 #[tactic(auto, unfolding(crate::specs::Rings::ring_fits))]
 fn ring_fits(length: u32, kind: u32) -> bool
     ensures { result ≡ ring_fits length kind }
 {
-    if length < 1 {
-        return false;
-    }
-    if LONGEST_RING < length {
-        return false;
-    }
-    kind <= KEY
-}
-
-// The length of the ring at a place.
-fn length_at(rings: &[u32], place: usize) -> u32
-    requires { place < ring_count rings.now }
-    ensures { result ≡ length_of rings.now place }
-{
-    rings[2 * place]
-}
-
-// The kind of the ring at a place.
-fn kind_at(rings: &[u32], place: usize) -> u32
-    requires { place < ring_count rings.now }
-    ensures { result ≡ kind_of rings.now place }
-{
-    rings[2 * place + 1]
+    1 <= length && length <= LONGEST_RING && kind <= KEY
 }
 
 // Whether every ring's length and kind are in range.
-#[tactic(auto, using(laws::proofs::Below::all_of))]
-fn each_ring_fits(rings: &[u32]) -> bool
-    ensures { result ≡ all_below (ring_count rings.now) (λ place. ring_fits (length_of rings.now place) (kind_of rings.now place)) }
+fn each_ring_fits(pairs: &[[u32; 2]]) -> bool
+    ensures { result ≡ list_all (λ pair. ring_fits (get_or pair 0 0) (get_or pair 1 0)) pairs.now }
 {
-    let mut place = 0;
-    while place < rings.len() / 2 {
-        if !ring_fits(length_at(rings, place), kind_at(rings, place)) {
-            return false;
-        }
-        place += 1;
-    }
-    true
+    pairs.iter().all(|[length, kind]| ring_fits(*length, *kind))
 }
 
 // Whether the list has two words a ring, no ring too many or too few, and every ring in range: cause 14 does not hold.
-#[tactic(auto, unfolding(crate::specs::Rings::rings_fit))]
+#[tactic(auto, using(crate::proofs::Pairs::all_pairs), unfolding(crate::specs::Rings::rings_fit))]
 fn rings_fit(rings: &[u32]) -> bool
     ensures { result ≡ rings_fit rings.now }
 {
-    if rings.len() % 2 != 0 {
-        return false;
-    }
-    let count = rings.len() / 2;
-    if count < 1 {
-        return false;
-    }
-    if MOST_RINGS < count {
-        return false;
-    }
-    each_ring_fits(rings)
+    let (pairs, rest) = rings.as_chunks::<2>();
+    rest.is_empty() && 1 <= pairs.len() && pairs.len() <= MOST_RINGS && each_ring_fits(pairs)
 }
 
 // Whether a ring between these chainages owns a chainage.
@@ -101,69 +54,51 @@ fn rings_fit(rings: &[u32]) -> bool
 fn owns_between(start: u64, end: u64, kind: u32, chainage: u64) -> bool
     ensures { result ≡ owns_between start end kind chainage }
 {
-    if chainage == end {
-        return kind == KEY;
-    }
-    if chainage < start {
-        return false;
-    }
-    chainage < end
+    start <= chainage && chainage < end || kind == KEY && chainage == end
 }
 
-// The place of the first ring that owns a chainage; the number of rings if none does.
-#[tactic(auto, using(laws::proofs::Lowest::lowest_none, crate::proofs::Ranges::fits_range))]
-fn first_owner(rings: &[u32], chainage: u64) -> usize
+// The place of the first ring that owns a chainage, if one does.
+#[tactic(auto, using(laws::proofs::Lowest::lowest_none, crate::proofs::Ranges::fits_range, crate::proofs::Ranges::listed, crate::proofs::Pairs::pair_length, crate::proofs::Pairs::pair_owns))]
+fn first_owner(rings: &[u32], chainage: u64) -> Option<usize>
     requires { rings_fit rings.now ≡ true }
-    ensures { result ≡ first_owner rings.now chainage }
+    ensures { SomeIff result (first_owner rings.now chainage < ring_count rings.now) (first_owner rings.now chainage) }
 {
-    let count = rings.len() / 2;
+    let (pairs, _) = rings.as_chunks::<2>();
     let mut start: u64 = 0;
-    let mut place = 0;
-    while place < count {
-        let end = start + length_at(rings, place) as u64;
-        if owns_between(start, end, kind_at(rings, place), chainage) {
-            return place;
+    for (place, [length, kind]) in pairs.iter().enumerate() {
+        let end = start + u64::from(*length);
+        if owns_between(start, end, *kind, chainage) {
+            return Some(place);
         }
         start = end;
-        place += 1;
     }
-    count
+    None
 }
 
-// Which ring owns a chainage: the lowest number, if two do.
+// Which ring owns a chainage, by its number, counted from 1: the lowest, if two do.
 #[tactic(auto, using(crate::proofs::Ranges::fits_range), unfolding(crate::specs::Owner::owner_of))]
-pub fn owner(rings: &[u32], chainage: u64) -> OwnerAnswer
+pub fn owner(rings: &[u32], chainage: u64) -> Result<u16, Refusal>
     ensures { result ≡ owner_of rings.now chainage }
 {
     if !rings_fit(rings) {
-        return OwnerAnswer::Refused(Refusal::Rings);
+        return Err(Refusal::Rings);
     }
-    let place = first_owner(rings, chainage);
-    if place < rings.len() / 2 {
-        OwnerAnswer::Ring(place as u16 + 1)
-    } else {
-        OwnerAnswer::Refused(Refusal::Chainage)
-    }
+    let place = first_owner(rings, chainage).ok_or(Refusal::Chainage)?;
+    Ok(place as u16 + 1)
 }
 
 // The rings built after a build: at the last ring no more.
 fn after_build(rings: u16, built: u16) -> u16
     ensures { result ≡ next_built rings built 1 }
 {
-    if rings <= built {
-        return built;
-    }
-    built + 1
+    if built < rings { built + 1 } else { built }
 }
 
 // The rings built after a take out: at none no fewer.
 fn after_take_out(built: u16) -> u16
     ensures { result ≡ next_built 0 built 2 }
 {
-    if built == 0 {
-        return 0;
-    }
-    built - 1
+    built.saturating_sub(1)
 }
 
 // An entry: its response is the number of rings built before.
@@ -171,7 +106,7 @@ fn entry(next: u16, built: u16) -> Entry
     ensures { (result.next ≡ next) × (result.response ≡ built) }
 {
     Entry {
-        next: next,
+        next,
         response: built,
     }
 }
@@ -196,10 +131,8 @@ fn write_states(room: &mut [u8], rings: u16)
     requires { rings ≤ most_rings }
     ensures { room.new ≡ sets room.old 0 (entries_of (rings + 1) desk_operations (desk_entry rings)) }
 {
-    let mut built: u16 = 0;
-    while built <= rings {
-        write_state(room, STATE_BYTES * built as u32, rings, built);
-        built += 1;
+    for built in 0..=rings {
+        write_state(room, STATE_BYTES * u32::from(built), rings, built);
     }
 }
 
@@ -210,7 +143,7 @@ fn write_file(room: &mut [u8], rings: u16, shape: Shape)
     ensures { room.new ≡ sets room.old 0 (desk_file rings) }
 {
     write_states(room, rings);
-    table_writer::write_trailer(room, STATE_BYTES * (rings as u32 + 1), shape);
+    table_writer::write_trailer(room, STATE_BYTES * (u32::from(rings) + 1), shape);
 }
 
 // Writes the object table of the drive at the room's start, and answers its length in bytes.

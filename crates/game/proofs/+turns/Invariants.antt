@@ -1,5 +1,5 @@
 -- The two turns call each other: the moves left fall, and each loop has found of the operations passed that they do not decide.
-use Rattle.std.proofs.Common.{◌-◌, ◌≡◌, ℕ, ◌<◌, ◌≤◌, true, false}
+use Rattle.std.proofs.Common.{◌-◌, ◌≡◌, ℕ, ◌<◌, true, false}
 use Rattle.game.proofs.Turns.{to_theirs, to_ours}
 use Rattle.game.proofs.+turns.Given as goal
 
@@ -11,18 +11,8 @@ decreases-their_turn l = l.left
 
 -- No operation passed leads to a turn that is won.
 abbrev pub invariant-our_turn-loop-operation : goal.invariant-our_turn-loop-operation
-invariant-our_turn-loop-operation l =
-    (l.operation ≤ l.operations)
-    × ((k : ℕ) → k < l.operation → to_theirs l.file l.shape l.targets (l.left - 1) l.state k ≡ false)
-
-abbrev pub decreases-our_turn-loop-operation : goal.decreases-our_turn-loop-operation
-decreases-our_turn-loop-operation l = l.operations - l.operation
+invariant-our_turn-loop-operation l = (k : ℕ) → k < l.operation → to_theirs l.file l.shape l.targets (l.left - 1) l.state k ≡ false
 
 -- Every operation passed leads to a turn that is won.
 abbrev pub invariant-their_turn-loop-operation : goal.invariant-their_turn-loop-operation
-invariant-their_turn-loop-operation l =
-    (l.operation ≤ l.operations)
-    × ((k : ℕ) → k < l.operation → to_ours l.file l.shape l.targets (l.left - 1) l.state k ≡ true)
-
-abbrev pub decreases-their_turn-loop-operation : goal.decreases-their_turn-loop-operation
-decreases-their_turn-loop-operation l = l.operations - l.operation
+invariant-their_turn-loop-operation l = (k : ℕ) → k < l.operation → to_ours l.file l.shape l.targets (l.left - 1) l.state k ≡ true

@@ -1,4 +1,4 @@
-use Prim.Native.Nat.{ℕ, ◌*◌, ◌<◌, ◌≤◌, ◌-◌}
+use Prim.Native.Nat.{ℕ, ◌*◌, ◌<◌, ◌≤◌}
 use mathlib.Core.Path.{◌≡◌}
 use mathlib.Core.Bool.{false}
 use Rattle.ring_desk.specs.Rings.{longest_ring, start_of}
@@ -6,8 +6,4 @@ use Rattle.ring_desk.specs.Owner.{owns}
 use Rattle.ring_desk.proofs.first_owner.Given as goal
 
 abbrev pub invariant-loop-place : goal.invariant-loop-place
-invariant-loop-place l =
-    (l.place ≤ l.count) × ((l.start ≡ start_of l.rings l.place) × ((l.start ≤ longest_ring * l.place) × ((k : ℕ) → k < l.place → owns l.rings l.chainage k ≡ false)))
-
-abbrev pub decreases-loop-place : goal.decreases-loop-place
-decreases-loop-place l = l.count - l.place
+invariant-loop-place l = (l.start ≡ start_of l.rings l.place) × ((l.start ≤ longest_ring * l.place) × ((k : ℕ) → k < l.place → owns l.rings l.chainage k ≡ false))

@@ -1,4 +1,3 @@
-use Prim.Native.Nat.{◌+◌, ◌-◌, ◌≤◌}
 use mathlib.Core.Path.{◌≡◌}
 use lib.Seq.{sets}
 use Rattle.table_writer.specs.Written.{entries_of}
@@ -6,7 +5,4 @@ use Rattle.ring_desk.specs.Table.{desk_operations, desk_entry}
 use Rattle.ring_desk.proofs.write_states.Given as goal
 
 abbrev pub invariant-loop-built : goal.invariant-loop-built
-invariant-loop-built l = (l.built ≤ l.rings + 1) × (l.room ≡ sets l.initial.room 0 (entries_of l.built desk_operations (desk_entry l.rings)))
-
-abbrev pub decreases-loop-built : goal.decreases-loop-built
-decreases-loop-built l = l.rings + 1 - l.built
+invariant-loop-built l = l.room ≡ sets l.initial.room 0 (entries_of l.built desk_operations (desk_entry l.rings))
