@@ -24,9 +24,6 @@ use Rattle.bench_lines.specs.declared.reply.Reply.{Reply}
 use Rattle.bench_lines.specs.declared.reply.Reply.TheVariants as reply
 use Rattle.bench_lines.specs.declared.reply.Text.{Text}
 use Rattle.bench_session.specs.declared.run.Bench.{Bench}
-use Rattle.bench_session.specs.declared.run.Handled.{Handled}
-use Rattle.bench_session.specs.declared.run.Stepped.{Stepped}
-use Rattle.bench_session.specs.declared.run.Printed.{Printed}
 use Rattle.bench_lines.specs.Line.{reply_line, cells_line}
 
 -- The bench before the first line.
@@ -40,6 +37,16 @@ cell_count n = cond (ltb n 9) (n + 1) 9
 -- What is lent to a call: the first of the cells and of the records.
 abbrev pub lent : Bench → Store
 lent bench = record { cells = take (cell_count bench.tasks) bench.cells; row = take (first_count bench.tasks) bench.row }
+
+-- What is left after a line, and what is answered.
+pub record Handled : Type 0 where
+  pub bench : Bench
+  pub reply : Reply
+
+-- What is left after a step, and what it answered.
+pub record Stepped : Type 0 where
+  pub bench : Bench
+  pub answer : StepAnswer
 
 -- ---- `n k`: an accepted start opens another run; a refused one leaves the present run as it is
 
@@ -176,5 +183,5 @@ abbrev pub Spells : Text → List ℕ → Type 0
 Spells text bytes = IsPrefixLen text.len text.bytes × (take text.len text.bytes ≡ bytes)
 
 -- The bench that is left, and the text that is printed.
-abbrev pub Prints : Printed → Printing → Type 0
-Prints r out = (r.bench ≡ out.bench) × Spells r.text out.text
+abbrev pub Prints : Bench → Text → Printing → Type 0
+Prints bench text out = (bench ≡ out.bench) × Spells text out.text

@@ -79,18 +79,16 @@ fn held_command(line: [u8; 64], len: usize) -> Command
 }
 
 // The line has come to its end, and is served.
-#[tactic(auto, using(crate::proofs::Held::hold_none, crate::proofs::Runs::prints_as))]
+#[tactic(auto, using(crate::proofs::Held::hold_none))]
 fn end_line(file: &[u8], session: Session) -> Taken
     ensures { (fed : Fed) → Follows fed session → Yields result (end_line file.now fed) }
 {
     let line = session.line;
-    let bench = session.bench;
-    let printed = run::serve(file, bench, held_command(line, session.len));
-    let text = printed.text;
-    let left = printed.bench;
+    let mut bench = session.bench;
+    let text = run::serve(file, &mut bench, held_command(line, session.len));
     Taken {
         session: Session {
-            bench: left,
+            bench,
             line,
             len: 0,
         },
