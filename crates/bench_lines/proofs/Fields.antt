@@ -1,77 +1,68 @@
 -- A line's first field ends at its first space; what stands after that space are the other fields.
-use mathlib.Core.Path.{◌≡◌, refl, ap, sym, ◌∙◌}
-use mathlib.Core.Bool.{Bool, true, false, not, and-eq-true_iff}
+use mathlib.Core.Path.{◌≡◌, refl, ap, sym, subst, ◌∙◌}
+use mathlib.Core.Bool.{Bool, true, false}
 use mathlib.Core.List.{List, [], ◌∷◌}
 use Prim.Native.Nat.{ℕ, suc, ◌+◌, ◌<◌, ◌≤◌}
 use native.Mathlib.Numerals.{add-one}
 use native.Mathlib.Omega.{arith}
-use borrow.Author.Tests.{ltb-false, eq-eqb, ne_eqb, eqb-true}
-use lib.Dec.{leb, ltb, eqb}
+use borrow.Author.Tests.{ltb-true, ltb-false, eq-eqb, ne_eqb, eqb-true}
+use lib.Dec.{ltb, eqb}
 use lib.ListN.{length, take, drop, get_or}
-use lib.Seq.{length-take-le, get_or-take}
 use Rattle.std.specs.Prelude.{Option, Some, None}
-use Rattle.std.specs.Option.{unwrap_or}
 use Rattle.std.specs.List.{position, position_or_len}
-use Rattle.std.proofs.lemmas.List.Sums.{prefix_len-le-length}
-use Rattle.bench_lines.specs.Command.{index_of, Fields, last, more, space, lengthened, fields_of, decimal_of, digits_of, zero_digit, nine_digit, is_digit, letter_of, with_one, with_two, after_number, after_letter, alone, command_in, command_of}
+use Rattle.bench_lines.specs.Command.{Fields, last, more, space, lengthened, fields_of, decimal_of, letter_of, with_one, with_two, after_number, after_letter, alone, command_in, command_of}
 use Rattle.bench_lines.specs.declared.command.Command.TheVariants.{Unknown}
 
--- Where a byte first stands, in the library's words.
-stands_first : (c : ℕ) (line : List ℕ) → index_of c line ≡ position_or_len (λ (b : ℕ). eqb b c) line
-unfolding index_of
-stands_first c [] = refl
-stands_first c (b ∷ line) = at (eqb b c) refl (stands_first c line)
-  where
-    at : (t : Bool) → eqb b c ≡ t → index_of c line ≡ position_or_len (λ (x : ℕ). eqb x c) line → index_of c (b ∷ line) ≡ position_or_len (λ (x : ℕ). eqb x c) (b ∷ line)
-    at true e rest = rw e refl
-    at false e rest = rw e (omega (arith, rest))
-
-index_of_le : (c : ℕ) (line : List ℕ) → index_of c line ≤ length line
-index_of_le c line = omega (arith, stands_first c line, prefix_len-le-length (λ (b : ℕ). not (eqb b c)) line)
-
-first_or_end : (c : ℕ) (line : List ℕ) → unwrap_or (position (λ (b : ℕ). eqb b c) line) (length line) ≡ index_of c line
-first_or_end c line = at (ltb (position_or_len (λ (b : ℕ). eqb b c) line) (length line)) refl
-  where
-    at : (t : Bool) → ltb (position_or_len (λ (b : ℕ). eqb b c) line) (length line) ≡ t → unwrap_or (position (λ (b : ℕ). eqb b c) line) (length line) ≡ index_of c line
-    at true e = rw e (sym (stands_first c line))
-    at false e = rw e (omega (arith, ltb-false (position_or_len (λ (b : ℕ). eqb b c) line) (length line) e, index_of_le c line, stands_first c line))
-
--- The first field ends where the first space stands, or with the line.
-pub field_ends : (line : List ℕ) (found : Option ℕ) (end : ℕ) → found ≡ position (λ (b : ℕ). eqb b space) line → end ≡ unwrap_or found (length line)
-    → (end ≡ index_of space line) × (end ≤ length line)
-field_ends line found end f e =
-    let ends : end ≡ index_of space line = e ∙ ap (λ (o : Option ℕ). unwrap_or o (length line)) f ∙ first_or_end space line in
-    (ends, omega (arith, ends, index_of_le space line))
+-- Where the first space stands, or the end.
+abbrev before_space : List ℕ → ℕ
+before_space line = position_or_len (λ (b : ℕ). eqb b space) line
 
 -- Without a space the line is one field.
-pub one_field : (line : List ℕ) → length line ≤ index_of space line → fields_of line ≡ last line
-unfolding fields_of index_of
-one_field [] h = refl
-one_field (b ∷ line) h = at (eqb b space) refl (one_field line)
+whole_line : (line : List ℕ) → length line ≤ before_space line → fields_of line ≡ last line
+unfolding fields_of
+whole_line [] h = refl
+whole_line (b ∷ line) h = at (eqb b space) refl (whole_line line)
   where
-    at : (t : Bool) → eqb b space ≡ t → (length line ≤ index_of space line → fields_of line ≡ last line) → fields_of (b ∷ line) ≡ last (b ∷ line)
+    at : (t : Bool) → eqb b space ≡ t → (length line ≤ before_space line → fields_of line ≡ last line) → fields_of (b ∷ line) ≡ last (b ∷ line)
     at true e rest = let h' : suc (length line) ≤ 0 = rw e at h in absurd (omega arith)
     at false e rest =
-        let h' : suc (length line) ≤ suc (index_of space line) = rw e at h in
+        let h' : suc (length line) ≤ 1 + before_space line = rw e at h in
         rw e (ap (lengthened b) (rest (omega arith)))
 
 -- With a space the first field stands before it, and the others after it.
-abbrev Parted : List ℕ → Type 0
-Parted line = fields_of line ≡ more (take (index_of space line) line) (fields_of (drop (suc (index_of space line)) line))
+abbrev Parted : ℕ → List ℕ → Type 0
+Parted end line = fields_of line ≡ more (take end line) (fields_of (drop (suc end) line))
 
-first_field' : (line : List ℕ) → index_of space line < length line → Parted line
-unfolding fields_of index_of
-first_field' [] h = absurd (omega arith)
-first_field' (b ∷ line) h = at (eqb b space) refl (first_field' line)
+parted_line : (line : List ℕ) → before_space line < length line → Parted (before_space line) line
+unfolding fields_of
+parted_line [] h = absurd (omega arith)
+parted_line (b ∷ line) h = at (eqb b space) refl (parted_line line)
   where
-    at : (t : Bool) → eqb b space ≡ t → (index_of space line < length line → Parted line) → Parted (b ∷ line)
+    at : (t : Bool) → eqb b space ≡ t → (before_space line < length line → Parted (before_space line) line) → Parted (before_space (b ∷ line)) (b ∷ line)
     at true e rest = rw e refl
     at false e rest =
-        let h' : suc (index_of space line) < suc (length line) = rw e at h in
-        rw e (ap (lengthened b) (rest (omega arith)))
+        let h' : 1 + before_space line < suc (length line) = rw e at h in
+        let next : 1 + before_space line ≡ suc (before_space line) = omega arith in
+        rw (e, next) (ap (lengthened b) (rest (omega arith)))
 
-pub first_field : (line : List ℕ) (end : ℕ) → end ≡ index_of space line → end < length line → fields_of line ≡ more (take end line) (fields_of (drop (end + 1) line))
-first_field line end e h = rw (add-one, e) (first_field' line (rw e at h))
+-- The same by what a search for the first space finds.
+abbrev Found : List ℕ → Option ℕ → Type 0
+Found line None = fields_of line ≡ last line
+Found line (Some end) = fields_of line ≡ more (take end line) (fields_of (drop (end + 1) line))
+
+found_space : (line : List ℕ) → Found line (position (λ (b : ℕ). eqb b space) line)
+found_space line = at (ltb (before_space line) (length line)) refl
+  where
+    at : (t : Bool) → ltb (before_space line) (length line) ≡ t → Found line (position (λ (b : ℕ). eqb b space) line)
+    at true e = rw (e, add-one) (parted_line line (ltb-true (before_space line) (length line) e))
+    at false e = rw e (whole_line line (omega (arith, ltb-false (before_space line) (length line) e)))
+
+pub one_field : (line : List ℕ) (found : Option ℕ) → found ≡ position (λ (b : ℕ). eqb b space) line → found ≡ None → fields_of line ≡ last line
+one_field line found e none = subst (Found line) (sym e ∙ none) (found_space line)
+
+pub first_field : (line : List ℕ) (found : Option ℕ) (end : ℕ) → found ≡ position (λ (b : ℕ). eqb b space) line → found ≡ Some end
+    → fields_of line ≡ more (take end line) (fields_of (drop (end + 1) line))
+first_field line found end e some = subst (Found line) (sym e ∙ some) (found_space line)
 
 -- A field of another length is no number.
 pub decimal_of_none : (field : List ℕ) → (length field ≡ 1 → ⊥) → (length field ≡ 2 → ⊥) → (length field ≡ 3 → ⊥) → decimal_of field ≡ None
@@ -154,6 +145,7 @@ command_of_more (a ∷ b ∷ line) h e = at (eqb a space) refl
   where
     parted : fields_of (b ∷ line) ≡ more [] (fields_of line)
     parted = rw (eq-eqb b space e) refl
+
     at : (t : Bool) → eqb a space ≡ t → after_letter a (fields_of line) ≡ command_in (fields_of (a ∷ b ∷ line))
     at true q = rw (eqb-true a space q) (no_space (fields_of line) ∙ sym (no_form (fields_of (b ∷ line))))
     at false q = rw (q, parted) refl
@@ -168,8 +160,10 @@ command_of_none (a ∷ b ∷ line) h other = at (eqb a space) refl
     longer : (fields : Fields) → command_in (lengthened a (lengthened b fields)) ≡ Unknown
     longer (last f) = refl
     longer (more f rest) = no_form rest
+
     together : fields_of (b ∷ line) ≡ lengthened b (fields_of line)
     together = rw (ne_eqb b space other) refl
+
     at : (t : Bool) → eqb a space ≡ t → Unknown ≡ command_in (fields_of (a ∷ b ∷ line))
     at true q = rw q (sym (no_form (fields_of (b ∷ line))))
     at false q = rw (q, together) (sym (longer (fields_of line)))

@@ -1,5 +1,5 @@
 -- docs/FORMATS.md, "The bench": what a line of input means.
-use Rattle.std.specs.Prelude.{Bool, ◌&&◌, cond, Option, Some, None, List, [], ◌∷◌, ℕ, suc, ◌+◌, ◌-◌, ◌*◌, leb, eqb}
+use Rattle.std.specs.Prelude.{Bool, ◌&&◌, cond, Option, Some, None, List, [], ◌∷◌, ℕ, ◌+◌, ◌-◌, ◌*◌, leb, eqb}
 use Rattle.bench_lines.specs.declared.command.Command.{Command}
 use Rattle.bench_lines.specs.declared.command.Command.TheVariants.{Start, Begin, Step, Finish, Print, Unknown}
 
@@ -14,11 +14,6 @@ zero_digit = 48
 
 abbrev pub nine_digit : ℕ
 nine_digit = 57
-
--- Where a byte first stands, or the end.
-unfoldable pub index_of : ℕ → List ℕ → ℕ
-index_of c [] = 0
-index_of c (b ∷ bs) = cond (eqb b c) 0 (suc (index_of c bs))
 
 -- ---- A line's fields: its parts between spaces, one more than there are spaces
 

@@ -1,6 +1,6 @@
 // What a line of input means.
-ghost use Rattle.std.specs.Prelude.{◌≡◌, ◌==◌, ◌<◌, ◌≤◌, IfSome, length, position};
-ghost use Rattle.bench_lines.specs.Command.{space, index_of, digit_of, digits_of, decimal_of, fields_of, alone, with_one, with_two, after_number, after_letter, command_of};
+ghost use Rattle.std.specs.Prelude.{◌≡◌, ◌==◌, ◌<◌, IfSome, position};
+ghost use Rattle.bench_lines.specs.Command.{space, digit_of, digits_of, decimal_of, fields_of, alone, with_one, with_two, after_number, after_letter, command_of};
 
 #[derive(Clone, Copy)]
 pub enum Command {
@@ -50,13 +50,6 @@ fn first_space(line: &[u8]) -> Option<usize>
     line.iter().position(|byte| *byte == b' ')
 }
 
-// The length of the first field: where the first space stands, or the end.
-fn field_end(line: &[u8]) -> usize
-    ensures { (result ≡ index_of space line.now) × (result ≤ length line.now) }
-{
-    first_space(line).unwrap_or(line.len())
-}
-
 fn alone(letter: u8) -> Command
     ensures { result ≡ alone letter }
 {
@@ -94,11 +87,10 @@ fn with_two(letter: u8, first: Option<u16>, second: Option<u16>) -> Command
 fn after_number(letter: u8, first: Option<u16>, rest: &[u8]) -> Command
     ensures { result ≡ after_number letter first (fields_of rest.now) }
 {
-    let end = field_end(rest);
-    if end < rest.len() {
-        return Command::Unknown;
+    match first_space(rest) {
+        None => with_two(letter, first, read_number(rest)),
+        Some(_) => Command::Unknown,
     }
-    with_two(letter, first, read_number(rest))
 }
 
 // After a letter: one number or two.
@@ -106,12 +98,10 @@ fn after_number(letter: u8, first: Option<u16>, rest: &[u8]) -> Command
 fn after_letter(letter: u8, rest: &[u8]) -> Command
     ensures { result ≡ after_letter letter (fields_of rest.now) }
 {
-    let end = field_end(rest);
-    let first = read_number(&rest[..end]);
-    if end < rest.len() {
-        return after_number(letter, first, &rest[end + 1..]);
+    match first_space(rest) {
+        None => with_one(letter, read_number(rest)),
+        Some(end) => after_number(letter, read_number(&rest[..end]), &rest[end + 1..]),
     }
-    with_one(letter, first)
 }
 
 // The meaning of a line, which stands without its closing byte 10.

@@ -13,11 +13,8 @@ use Rattle.table.specs.declared.Checked.{Checked}
 use Rattle.table.specs.declared.Checked.TheVariants as table
 use Rattle.table.specs.Check.{check_of}
 use Rattle.records.specs.declared.record.Task.{Task}
-use Rattle.stepping.specs.declared.answer.StepAnswer.{StepAnswer}
 use Rattle.stepping.specs.declared.answer.StepAnswer.TheVariants as step
-use Rattle.stepping.specs.declared.answer.StartAnswer.{StartAnswer}
 use Rattle.stepping.specs.declared.answer.StartAnswer.TheVariants as start
-use Rattle.stepping.specs.declared.answer.BeginAnswer.{BeginAnswer}
 use Rattle.stepping.specs.declared.answer.BeginAnswer.TheVariants as begin
 use Rattle.stepping.specs.Call.{with_row, StartOutcome, with_cells, admit_start_of, start_of, begin_of, step_of}
 use Rattle.stepping.proofs.Refused.{refused_start, refused_begin_row, refused_step_row}

@@ -1,10 +1,9 @@
 -- The steps of a task until its operation has ended.
 use mathlib.Core.Path.{◌≡◌, refl, ap, sym, ◌∙◌}
-use mathlib.Core.Bool.{true, false, and-false}
+use mathlib.Core.Bool.{true, false}
 use mathlib.Core.List.{List, ◌++◌}
 use Prim.Native.Nat.{ℕ, zero, suc, ◌-◌, ◌<◌}
 use native.Mathlib.Omega.{arith}
-use borrow.Author.Tests.{eq-eqb, ne_eqb}
 use lib.ListN.{take, drop, take-append-drop}
 use Rattle.refusal.specs.declared.Refusal.{Refusal}
 use Rattle.cells.specs.Ceiling.{greatest_ceiling}
@@ -14,10 +13,9 @@ use Rattle.stepping.specs.declared.answer.StartAnswer.TheVariants as start
 use Rattle.stepping.specs.Call.{StartOutcome}
 use Rattle.bench_row.specs.First.{start_first}
 use Rattle.bench_row.proofs.Firsts.{refused_start_first}
-use Rattle.bench_lines.specs.declared.command.Command.{Command}
 use Rattle.bench_lines.specs.declared.reply.Reply.TheVariants as reply
 use Rattle.bench_session.specs.declared.run.Bench.{Bench}
-use Rattle.bench_session.specs.Run.{Handled, cell_count, start_held, start_bench, most_turns, runs_on, finish_from, step_bench, Printing, Prints, reply_printed, refuse_line, act_of, is_start, serve_command}
+use Rattle.bench_session.specs.Run.{Handled, cell_count, start_held, start_bench, most_turns, runs_on, finish_from, step_bench}
 
 -- The greatest number of turns.
 pub most_turns_lem : most_turns ≡ greatest_ceiling

@@ -1,7 +1,6 @@
 -- docs/FORMATS.md, "The bench": how a command is served. The bench holds nine cells and nine records; a run of n tasks has
 -- the first n + 1 and the first n of them, and before an accepted start n is 0.
-use Rattle.std.specs.Prelude.{◌≡◌, Bool, true, false, not, ◌&&◌, cond, List, ◌++◌, ℕ, zero, suc, ◌+◌, eqb, ltb, take, drop, replicate}
-use Rattle.io.specs.Counts.{IsPrefixLen}
+use Rattle.std.specs.Prelude.{Bool, true, false, not, ◌&&◌, cond, List, ◌++◌, ℕ, zero, suc, ◌+◌, eqb, ltb, take, drop, replicate}
 use Rattle.refusal.specs.declared.Refusal.TheVariants as cause
 use Rattle.cells.specs.Ceiling.{greatest_ceiling}
 use Rattle.table.specs.declared.Shape.{Shape}
@@ -22,7 +21,6 @@ use Rattle.bench_lines.specs.declared.command.Command.{Command}
 use Rattle.bench_lines.specs.declared.command.Command.TheVariants as command
 use Rattle.bench_lines.specs.declared.reply.Reply.{Reply}
 use Rattle.bench_lines.specs.declared.reply.Reply.TheVariants as reply
-use Rattle.bench_lines.specs.declared.reply.Text.{Text}
 use Rattle.bench_session.specs.declared.run.Bench.{Bench}
 use Rattle.bench_lines.specs.Line.{reply_line, cells_line}
 
@@ -177,11 +175,3 @@ is_start command.Unknown = false
 -- Before an accepted start every other command is refused with 13 too.
 unfoldable pub serve_command : List ℕ → Bench → Command → Printing
 serve_command file bench c = cond (eqb bench.tasks 0 && not (is_start c)) (reply_printed (refuse_line bench)) (act_of file bench c)
-
--- A text spells these bytes: they are its first ones, with its count within the buffer.
-abbrev pub Spells : Text → List ℕ → Type 0
-Spells text bytes = IsPrefixLen text.len text.bytes × (take text.len text.bytes ≡ bytes)
-
--- The bench that is left, and the text that is printed.
-abbrev pub Prints : Bench → Text → Printing → Type 0
-Prints bench text out = (bench ≡ out.bench) × Spells text out.text
