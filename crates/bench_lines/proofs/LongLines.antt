@@ -7,8 +7,7 @@ use native.Mathlib.Omega.{arith}
 use borrow.Author.Tests.{ltb-true, ltb-false}
 use lib.Dec.{ltb, eqb}
 use lib.ListN.{length}
-use Rattle.bench_lines.specs.declared.command.Number.{Number}
-use Rattle.bench_lines.specs.declared.command.Number.TheVariants.{Of, Nothing}
+use Rattle.std.specs.Prelude.{Option, Some, None}
 use Rattle.bench_lines.specs.declared.command.Command.TheVariants.{Unknown}
 use Rattle.bench_lines.specs.Command.{Fields, last, more, space, lengthened, fields_of, decimal_of, letter_of, with_two, after_number, after_letter, command_in, command_of}
 use Rattle.bench_lines.proofs.Fields.{decimal_of_none, no_letter, no_form}
@@ -31,18 +30,18 @@ size_fields (b ∷ line) = at (eqb b space) refl (size_fields line)
     at true e rest = rw e (omega arith)
     at false e rest = rw e (omega (arith, size_lengthened b (fields_of line)))
 
-long_number : (field : List ℕ) → 3 < length field → decimal_of field ≡ Nothing
+long_number : (field : List ℕ) → 3 < length field → decimal_of field ≡ None
 long_number field h = decimal_of_none field (λ e. omega arith) (λ e. omega arith) (λ e. omega arith)
 
-no_second : (letter : ℕ) (first : Number) → with_two letter first Nothing ≡ Unknown
-no_second letter (Of v) = refl
-no_second letter Nothing = refl
+no_second : (letter : ℕ) (first : Option ℕ) → with_two letter first None ≡ Unknown
+no_second letter (Some v) = refl
+no_second letter None = refl
 
-no_first : (letter : ℕ) (rest : Fields) → after_number letter Nothing rest ≡ Unknown
+no_first : (letter : ℕ) (rest : Fields) → after_number letter None rest ≡ Unknown
 no_first letter (last g) = refl
 no_first letter (more g rest) = refl
 
-long_second : (letter : ℕ) (first : Number) (rest : Fields) → 3 < size rest → after_number letter first rest ≡ Unknown
+long_second : (letter : ℕ) (first : Option ℕ) (rest : Fields) → 3 < size rest → after_number letter first rest ≡ Unknown
 long_second letter first (last g) h = rw (long_number g h) (no_second letter first)
 long_second letter first (more g rest) h = refl
 

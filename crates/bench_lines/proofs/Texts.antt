@@ -1,35 +1,19 @@
--- Texts that are appended one after another, and the digits of a number.
-use mathlib.Core.Path.{◌≡◌, refl, ap, sym, subst, ◌∙◌}
+-- The digits of a number, and fields one after another.
+use mathlib.Core.Path.{◌≡◌, refl, ap, sym, ◌∙◌}
 use mathlib.Core.Bool.{Bool, true, false}
 use mathlib.Core.List.{List, [], ◌∷◌, ◌++◌, append_assoc, append-nil}
-use Prim.Native.Nat.{ℕ, zero, suc, ◌+◌, ◌-◌, ◌*◌, ◌/◌, ◌%◌, ◌^◌, ◌<◌, ◌≤◌}
+use Prim.Native.Nat.{ℕ, zero, suc, ◌+◌, ◌-◌, ◌/◌, ◌%◌, ◌^◌, ◌<◌, ◌≤◌}
 use native.Mathlib.Nat.{one-le-pow, pow-succ', pow-le-pow_right}
 use native.Mathlib.Numerals.{add-one}
 use native.Mathlib.Omega.{arith}
 use borrow.Author.Tests.{lt-ltb, le-ltb, leb-true, leb-false}
-use lib.Dec.{leb, ltb}
-use lib.ListN.{length, take, get_or, set, length-append}
-use lib.Seq.{take-suc, take-suc-set, length-take-le}
-use Rattle.io.specs.Counts.{IsPrefixLen}
+use lib.Dec.{leb}
+use lib.ListN.{length, take, get_or}
+use lib.Seq.{take-suc}
 use Rattle.io.specs.Digits.{last_digits, hex_digit_ascii, IsDigitCount}
 use Rattle.bench_lines.specs.Command.{zero_digit}
-use Rattle.bench_lines.specs.Line.{Appended, decimal_in, decimal, hexadecimal, parted_in, field_of}
+use Rattle.bench_lines.specs.Line.{decimal_in, decimal, hexadecimal, parted_in, field_of}
 use Rattle.bench_lines.specs.declared.text.Base.{Base}
-use Rattle.bench_lines.specs.declared.text.Base.TheVariants.{Decimal, Hexadecimal}
-
--- One byte is appended.
-pub append_byte : (before : List ℕ) (at byte : ℕ) → at < length before → Appended before at (byte ∷ []) (set before at byte) (at + 1)
-append_byte before at byte h = (refl, rw add-one (take-suc-set before at byte h))
-
--- What is appended after appended bytes.
-pub append_more : (before : List ℕ) (at : ℕ) (first middle : List ℕ) (end : ℕ) (second after : List ℕ) (last : ℕ)
-    → Appended before at first middle end → Appended middle end second after last → Appended before at (first ++ second) after last
-append_more before at first middle end second after last a b =
-    (omega (arith, length-append first second, a.0, b.0), b.1 ∙ ap (λ (l : List ℕ). l ++ second) a.1 ∙ append_assoc (take at before) first second)
-
--- Nothing is appended.
-pub append_none : (before : List ℕ) (at : ℕ) → Appended before at [] before at
-append_none before at = (omega arith, sym (append-nil (take at before)))
 
 -- A digit below ten.
 small_glyph : (d : ℕ) → d < 10 → hex_digit_ascii d ≡ zero_digit + d
@@ -83,57 +67,10 @@ parted_append base [] ys = refl
 parted_append base (x ∷ xs) ys = rw (parted_append base xs ys) (sym (append_assoc (field_of base x) (parted_in base xs) (parted_in base ys)))
 
 -- One field more.
-pub fields_more : (base : Base) (values : List ℕ) (i : ℕ) → i < length values
-    → parted_in base (take (i + 1) values) ≡ parted_in base (take i values) ++ field_of base (get_or values i 0)
+pub fields_more : (base : Base) (before values : List ℕ) (i : ℕ) → i < length values
+    → (before ++ parted_in base (take i values)) ++ field_of base (get_or values i 0) ≡ before ++ parted_in base (take (i + 1) values)
 unfolding parted_in
-fields_more base values i h =
-    rw (add-one, take-suc values i 0) (parted_append base (take i values) (get_or values i 0 ∷ []) ∙ rw append-nil)
-
--- One byte more of a text that is copied.
-pub copy_more : (before out bytes : List ℕ) (at i : ℕ) → i < length bytes → at + i < length out → take (at + i) out ≡ take at before ++ take i bytes
-    → take (at + (i + 1)) (set out (at + i) (get_or bytes i 0)) ≡ take at before ++ take (i + 1) bytes
-copy_more before out bytes at i h room e =
-    let next : at + (i + 1) ≡ suc (at + i) = omega arith in
-    let more : take (i + 1) bytes ≡ take i bytes ++ (get_or bytes i 0 ∷ []) = rw add-one (take-suc bytes i 0 h) in
-    rw (next, take-suc-set out (at + i) (get_or bytes i 0) room, e, more) (append_assoc (take at before) (take i bytes) (get_or bytes i 0 ∷ []))
-
--- A field has at most 21 bytes.
-decimal_length : (k n : ℕ) → length (decimal_in k n) ≤ k
-unfolding decimal_in
-decimal_length zero n = omega arith
-decimal_length (suc k) n = at (ltb n 10) refl (decimal_length k (n / 10))
-  where
-    at : (t : Bool) → ltb n 10 ≡ t → length (decimal_in k (n / 10)) ≤ k → length (decimal_in (suc k) n) ≤ suc k
-    at true e h = rw e (omega arith)
-    at false e h = rw e (omega (arith, length-append (decimal_in k (n / 10)) ((zero_digit + n % 10) ∷ [])))
-
-digits_length : (b k n : ℕ) → length (last_digits b k n) ≡ k
-digits_length b zero n = refl
-digits_length b (suc k) n = omega (arith, length-append (last_digits b k (n / b)) (hex_digit_ascii (n % b) ∷ []), digits_length b k (n / b))
-
-pub decimal_most : (n : ℕ) → length (decimal n) ≤ 20
-unfolding decimal
-decimal_most n = decimal_length 20 n
-
-pub hexadecimal_most : (n : ℕ) → length (hexadecimal n) ≡ 16
-unfolding hexadecimal
-hexadecimal_most n = digits_length 16 16 n
-
-pub field_length : (base : Base) (n : ℕ) → length (field_of base n) ≤ 21
-field_length Decimal n = omega (arith, decimal_most n)
-field_length Hexadecimal n = omega (arith, hexadecimal_most n)
-
--- The same bytes under another name.
-pub appended_as : (before : List ℕ) (at : ℕ) (added other after : List ℕ) (end : ℕ) → added ≡ other → Appended before at added after end → Appended before at other after end
-appended_as before at added other after end e = subst (λ (bs : List ℕ). Appended before at bs after end) e
-
--- A field for each number has at most 21 bytes for each.
-pub parted_length : (base : Base) (ns : List ℕ) → length (parted_in base ns) ≤ 21 * length ns
-unfolding parted_in
-parted_length base [] = omega arith
-parted_length base (n ∷ ns) =
-    omega (arith, length-append (field_of base n) (parted_in base ns), field_length base n, parted_length base ns)
-
--- A text from the start of a buffer is the buffer's first bytes.
-pub closed : (before text after : List ℕ) (end : ℕ) → Appended before 0 text after end → end ≤ length after → IsPrefixLen end after × (take end after ≡ text)
-closed before text after end a h = ((h, sym (length-take-le end after h)), a.1)
+fields_more base before values i h =
+    let more : parted_in base (take (i + 1) values) ≡ parted_in base (take i values) ++ field_of base (get_or values i 0) =
+    rw (add-one, take-suc values i 0) (parted_append base (take i values) (get_or values i 0 ∷ []) ∙ rw append-nil) in
+    rw more (append_assoc before (parted_in base (take i values)) (field_of base (get_or values i 0)))

@@ -1,9 +1,7 @@
 -- docs/FORMATS.md, "The bench": what a line of input means.
-use Rattle.std.specs.Prelude.{Bool, ◌&&◌, cond, List, [], ◌∷◌, ℕ, suc, ◌+◌, ◌-◌, ◌*◌, leb, eqb}
+use Rattle.std.specs.Prelude.{Bool, ◌&&◌, cond, Option, Some, None, List, [], ◌∷◌, ℕ, ◌+◌, ◌-◌, ◌*◌, leb, eqb}
 use Rattle.bench_lines.specs.declared.command.Command.{Command}
 use Rattle.bench_lines.specs.declared.command.Command.TheVariants.{Start, Begin, Step, Finish, Print, Unknown}
-use Rattle.bench_lines.specs.declared.command.Number.{Number}
-use Rattle.bench_lines.specs.declared.command.Number.TheVariants.{Of, Nothing}
 
 -- ---- Bytes, in ASCII
 
@@ -16,11 +14,6 @@ zero_digit = 48
 
 abbrev pub nine_digit : ℕ
 nine_digit = 57
-
--- Where a byte first stands, or the end.
-unfoldable pub index_of : ℕ → List ℕ → ℕ
-index_of c [] = 0
-index_of c (b ∷ bs) = cond (eqb b c) 0 (suc (index_of c bs))
 
 -- ---- A line's fields: its parts between spaces, one more than there are spaces
 
@@ -45,18 +38,22 @@ fields_of (b ∷ line) = cond (eqb b space) (more [] (fields_of line)) (lengthen
 abbrev pub is_digit : ℕ → Bool
 is_digit b = leb zero_digit b && leb b nine_digit
 
+-- The number that a digit writes; nothing for another byte.
+abbrev pub digit_of : ℕ → Option ℕ
+digit_of b = cond (is_digit b) (Some (b - zero_digit)) None
+
 -- The number that three digits write; nothing if one of them is another byte.
-unfoldable pub digits_of : (a b c : ℕ) → Number
+unfoldable pub digits_of : (a b c : ℕ) → Option ℕ
 digits_of a b c =
-    cond (is_digit a && is_digit b && is_digit c) (Of (100 * (a - zero_digit) + 10 * (b - zero_digit) + (c - zero_digit))) Nothing
+    cond (is_digit a && is_digit b && is_digit c) (Some (100 * (a - zero_digit) + 10 * (b - zero_digit) + (c - zero_digit))) None
 
 -- A number has one to three digits.
-abbrev pub decimal_of : List ℕ → Number
-decimal_of [] = Nothing
+abbrev pub decimal_of : List ℕ → Option ℕ
+decimal_of [] = None
 decimal_of (c ∷ []) = digits_of zero_digit zero_digit c
 decimal_of (b ∷ c ∷ []) = digits_of zero_digit b c
 decimal_of (a ∷ b ∷ c ∷ []) = digits_of a b c
-decimal_of (a ∷ b ∷ c ∷ d ∷ ds) = Nothing
+decimal_of (a ∷ b ∷ c ∷ d ∷ ds) = None
 
 -- The letter of a field of one byte; of any other it is 0, with which no form begins.
 abbrev pub letter_of : List ℕ → ℕ
@@ -71,18 +68,18 @@ abbrev pub alone : ℕ → Command
 alone letter = cond (eqb letter 109) Print Unknown
 
 -- A letter and one number.
-abbrev pub with_one : ℕ → Number → Command
-with_one letter (Of v) = cond (eqb letter 110) (Start v) (cond (eqb letter 115) (Step v) (cond (eqb letter 100) (Finish v) Unknown))
-with_one letter Nothing = Unknown
+abbrev pub with_one : ℕ → Option ℕ → Command
+with_one letter (Some v) = cond (eqb letter 110) (Start v) (cond (eqb letter 115) (Step v) (cond (eqb letter 100) (Finish v) Unknown))
+with_one letter None = Unknown
 
 -- A letter and two numbers.
-abbrev pub with_two : ℕ → Number → Number → Command
-with_two letter (Of t) (Of o) = cond (eqb letter 98) (Begin t o) Unknown
-with_two letter (Of t) Nothing = Unknown
-with_two letter Nothing second = Unknown
+abbrev pub with_two : ℕ → Option ℕ → Option ℕ → Command
+with_two letter (Some t) (Some o) = cond (eqb letter 98) (Begin t o) Unknown
+with_two letter (Some t) None = Unknown
+with_two letter None second = Unknown
 
 -- After a letter and a number come the second number, or more fields than a form has.
-abbrev pub after_number : ℕ → Number → Fields → Command
+abbrev pub after_number : ℕ → Option ℕ → Fields → Command
 after_number letter first (last g) = with_two letter first (decimal_of g)
 after_number letter first (more g rest) = Unknown
 

@@ -1,5 +1,5 @@
 -- docs/FORMATS.md, "The bench": the lines that it prints.
-use Rattle.std.specs.Prelude.{cond, List, [], ◌∷◌, ◌++◌, ◌≡◌, ℕ, zero, suc, ◌+◌, ◌/◌, ◌%◌, ltb, length, take}
+use Rattle.std.specs.Prelude.{cond, List, [], ◌∷◌, ◌++◌, ℕ, zero, suc, ◌+◌, ◌/◌, ◌%◌, ltb}
 use Rattle.io.specs.Digits.{last_digits}
 use Rattle.laws.specs.Bit.{bit}
 use Rattle.refusal.specs.Number.{number_of}
@@ -64,7 +64,3 @@ most_cells = 9
 -- Room for the longest line.
 abbrev pub text_size : ℕ
 text_size = 256
-
--- What a text before `at` and appended bytes leave in a buffer: the end, and the bytes before it.
-abbrev pub Appended : (before : List ℕ) (at : ℕ) (added after : List ℕ) (end : ℕ) → Type 0
-Appended before at added after end = (end ≡ at + length added) × (take end after ≡ take at before ++ added)

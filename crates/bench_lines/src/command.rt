@@ -1,6 +1,6 @@
 // What a line of input means.
-ghost use Rattle.std.specs.Prelude.{◌≡◌, ◌==◌, ◌≤◌, length, position};
-ghost use Rattle.bench_lines.specs.Command.{space, index_of, is_digit, digits_of, decimal_of, fields_of, alone, with_one, with_two, after_number, after_letter, command_of};
+ghost use Rattle.std.specs.Prelude.{◌≡◌, ◌==◌, ◌<◌, IfSome, position};
+ghost use Rattle.bench_lines.specs.Command.{space, digit_of, digits_of, decimal_of, fields_of, alone, with_one, with_two, after_number, after_letter, command_of};
 
 #[derive(Clone, Copy)]
 pub enum Command {
@@ -12,52 +12,34 @@ pub enum Command {
     Unknown,
 }
 
-// A field read as a number.
-#[derive(Clone, Copy)]
-pub enum Number {
-    Of(u16),
-    Nothing,
-}
-
-fn is_digit(byte: u8) -> bool
-    ensures { result ≡ is_digit byte }
+// The number that a digit writes.
+fn digit(byte: u8) -> Option<u16>
+    ensures value { result ≡ digit_of byte }
+    ensures small { IfSome result (λ d. d < 10) }
 {
-    if byte < b'0' {
-        return false;
+    if !byte.is_ascii_digit() {
+        return None;
     }
-    byte <= b'9'
+    Some(u16::from(byte - b'0'))
 }
 
 // The number that three digits write.
-#[tactic(auto, using(crate::proofs::Fields::digit_range), unfolding(crate::specs::Command::digits_of))]
-fn three_digits(hundreds: u8, tens: u8, ones: u8) -> Number
+#[tactic(auto, unfolding(crate::specs::Command::digits_of))]
+fn three_digits(hundreds: u8, tens: u8, ones: u8) -> Option<u16>
     ensures { result ≡ digits_of hundreds tens ones }
 {
-    if !is_digit(hundreds) {
-        return Number::Nothing;
-    }
-    if !is_digit(tens) {
-        return Number::Nothing;
-    }
-    if !is_digit(ones) {
-        return Number::Nothing;
-    }
-    let a = (hundreds - b'0') as u16;
-    let b = (tens - b'0') as u16;
-    let c = (ones - b'0') as u16;
-    Number::Of(100 * a + 10 * b + c)
+    Some(100 * digit(hundreds)? + 10 * digit(tens)? + digit(ones)?)
 }
 
 // The number of one to three digits that a field writes.
-#[tactic(auto, using(crate::proofs::Fields::decimal_of_one, crate::proofs::Fields::decimal_of_two, crate::proofs::Fields::decimal_of_three, crate::proofs::Fields::decimal_of_none))]
-fn read_number(field: &[u8]) -> Number
+fn read_number(field: &[u8]) -> Option<u16>
     ensures { result ≡ decimal_of field.now }
 {
-    match field.len() {
-        1 => three_digits(b'0', b'0', field[0]),
-        2 => three_digits(b'0', field[0], field[1]),
-        3 => three_digits(field[0], field[1], field[2]),
-        _ => Number::Nothing,
+    match field {
+        [ones] => three_digits(b'0', b'0', *ones),
+        [tens, ones] => three_digits(b'0', *tens, *ones),
+        [hundreds, tens, ones] => three_digits(*hundreds, *tens, *ones),
+        _ => None,
     }
 }
 
@@ -66,13 +48,6 @@ fn first_space(line: &[u8]) -> Option<usize>
     ensures { result ≡ position (λ b. b == space) line.now }
 {
     line.iter().position(|byte| *byte == b' ')
-}
-
-// The length of the first field: where the first space stands, or the end.
-fn field_end(line: &[u8]) -> usize
-    ensures { (result ≡ index_of space line.now) × (result ≤ length line.now) }
-{
-    first_space(line).unwrap_or(line.len())
 }
 
 fn alone(letter: u8) -> Command
@@ -84,10 +59,10 @@ fn alone(letter: u8) -> Command
     }
 }
 
-fn with_one(letter: u8, value: Number) -> Command
+fn with_one(letter: u8, value: Option<u16>) -> Command
     ensures { result ≡ with_one letter value }
 {
-    let Number::Of(v) = value else {
+    let Some(v) = value else {
         return Command::Unknown;
     };
     match letter {
@@ -98,31 +73,24 @@ fn with_one(letter: u8, value: Number) -> Command
     }
 }
 
-fn with_two(letter: u8, first: Number, second: Number) -> Command
+fn with_two(letter: u8, first: Option<u16>, second: Option<u16>) -> Command
     ensures { result ≡ with_two letter first second }
 {
-    let Number::Of(task) = first else {
-        return Command::Unknown;
-    };
-    let Number::Of(operation) = second else {
-        return Command::Unknown;
-    };
-    match letter {
-        b'b' => Command::Begin { task, operation },
+    match (letter, first, second) {
+        (b'b', Some(task), Some(operation)) => Command::Begin { task, operation },
         _ => Command::Unknown,
     }
 }
 
 // After a letter and a number: one number more, and nothing else.
 #[tactic(auto, using(crate::proofs::Fields::one_field, crate::proofs::Fields::first_field))]
-fn after_number(letter: u8, first: Number, rest: &[u8]) -> Command
+fn after_number(letter: u8, first: Option<u16>, rest: &[u8]) -> Command
     ensures { result ≡ after_number letter first (fields_of rest.now) }
 {
-    let end = field_end(rest);
-    if end < rest.len() {
-        return Command::Unknown;
+    match first_space(rest) {
+        None => with_two(letter, first, read_number(rest)),
+        Some(_) => Command::Unknown,
     }
-    with_two(letter, first, read_number(rest))
 }
 
 // After a letter: one number or two.
@@ -130,25 +98,20 @@ fn after_number(letter: u8, first: Number, rest: &[u8]) -> Command
 fn after_letter(letter: u8, rest: &[u8]) -> Command
     ensures { result ≡ after_letter letter (fields_of rest.now) }
 {
-    let end = field_end(rest);
-    let first = read_number(&rest[..end]);
-    if end < rest.len() {
-        return after_number(letter, first, &rest[end + 1..]);
+    match first_space(rest) {
+        None => with_one(letter, read_number(rest)),
+        Some(end) => after_number(letter, read_number(&rest[..end]), &rest[end + 1..]),
     }
-    with_one(letter, first)
 }
 
 // The meaning of a line, which stands without its closing byte 10.
-#[tactic(auto, using(laws::proofs::Lists::to_the_end, crate::proofs::Fields::command_of_none, crate::proofs::Fields::command_of_one, crate::proofs::Fields::command_of_more))]
+#[tactic(auto, using(crate::proofs::Fields::command_of_empty, crate::proofs::Fields::command_of_none, crate::proofs::Fields::command_of_one))]
 pub fn parse(line: &[u8]) -> Command
     ensures { result ≡ command_of line.now }
 {
-    if field_end(line) != 1 {
-        return Command::Unknown;
+    match line {
+        [letter] => alone(*letter),
+        [letter, b' ', rest @ ..] => after_letter(*letter, rest),
+        _ => Command::Unknown,
     }
-    let letter = line[0];
-    if line.len() == 1 {
-        return alone(letter);
-    }
-    after_letter(letter, &line[2..])
 }

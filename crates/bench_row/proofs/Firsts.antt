@@ -1,6 +1,7 @@
--- What a call on the first of nine records says at its exit, from what the call on their row says.
-use Rattle.std.specs.Prelude.{Result, Ok, Err, ⊤}
-use mathlib.Core.Path.{◌≡◌, refl, ap, sym, ◌∙◌}
+-- How many of nine records are lent, and what a refused call leaves of them.
+use Prim.Base.{tt}
+use Rattle.std.specs.Prelude.{Result, Ok, Err}
+use mathlib.Core.Path.{◌≡◌, refl, ap, ◌∙◌}
 use mathlib.Core.Bool.{Bool, true, false}
 use mathlib.Core.List.{List, ◌++◌}
 use Prim.Native.Nat.{ℕ, ◌<◌, ◌≤◌}
@@ -12,13 +13,10 @@ use Rattle.refusal.specs.declared.Refusal.{Refusal}
 use Rattle.cells.proofs.Ceilings.{no_ceiling}
 use Rattle.table.specs.Check.{check_of}
 use Rattle.records.specs.declared.record.Task.{Task}
-use Rattle.stepping.specs.Call.{with_row, StartOutcome, with_cells, admit_start_of, start_of, BeginOutcome, begin_of, StepOutcome, step_of}
+use Rattle.stepping.specs.Call.{with_row, StartOutcome, with_cells, admit_start_of, start_of, begin_of, step_of}
 use Rattle.stepping.proofs.Refused.{refused_start, refused_begin_row, refused_step_row}
 use Rattle.bench_row.specs.First.{first_count, start_first, begin_first, step_first}
-use Rattle.drive.proofs.Calls.{BeginSaid, StepSaid}
-use Rattle.drive.proofs.Starts.{StartSaid}
 use Rattle.table.specs.declared.Shape.{Shape}
-use Rattle.stepping.specs.declared.answer.Progress.{Progress}
 use Rattle.stepping.specs.declared.answer.Progress.TheVariants as progress
 
 -- ---- How many records are lent
@@ -39,29 +37,6 @@ long_start file cs ys zs h g = at (check_of file)
     at : (checked : Result Shape Refusal) → (with_cells (length cs) (length ys) (with_row (length ys) checked)).answer ≡ (with_cells (length cs) (length zs) (with_row (length zs) checked)).answer
     at (Ok shape) = rw (no_ceiling (length ys) (λ _ l. omega arith), no_ceiling (length zs) (λ _ l. omega arith)) refl
     at (Err c) = refl
-
--- ---- The calls
-
-pub start_first_lem : (file cs : List ℕ) (xs : List Task) (n m : ℕ) (cs' : List ℕ) (ys' : List Task) (a : Result ⊤ Refusal) (row : List Task) (b : Result ⊤ Refusal)
-    → m ≡ first_count n → StartSaid file cs (take m xs) cs' ys' a → row ≡ ys' ++ drop m xs → b ≡ a
-    → ◌≡◌ {A = StartOutcome} (record { cells = cs'; row = row; answer = b }) (start_first file cs xs n)
-unfolding start_first
-start_first_lem file cs xs n m cs' ys' a row b em e er eb =
-    rw (er, eb, sym em) (ap (λ (s : StartOutcome). record { cells = s.cells; row = s.row ++ drop m xs; answer = s.answer }) e)
-
-pub begin_first_lem : (file : List ℕ) (xs : List Task) (n m t o : ℕ) (ys' : List Task) (a : Result ⊤ Refusal) (row : List Task) (b : Result ⊤ Refusal)
-    → m ≡ first_count n → BeginSaid file (take m xs) t o ys' a → row ≡ ys' ++ drop m xs → b ≡ a
-    → ◌≡◌ {A = BeginOutcome} (record { row = row; answer = b }) (begin_first file xs n t o)
-unfolding begin_first
-begin_first_lem file xs n m t o ys' a row b em e er eb =
-    rw (er, eb, sym em) (ap (λ (s : BeginOutcome). record { row = s.row ++ drop m xs; answer = s.answer }) e)
-
-pub step_first_lem : (file cs : List ℕ) (xs : List Task) (n m t : ℕ) (cs' : List ℕ) (ys' : List Task) (a : Result Progress Refusal) (row : List Task) (b : Result Progress Refusal)
-    → m ≡ first_count n → StepSaid file cs (take m xs) t cs' ys' a → row ≡ ys' ++ drop m xs → b ≡ a
-    → ◌≡◌ {A = StepOutcome} (record { cells = cs'; row = row; answer = b }) (step_first file cs xs n t)
-unfolding step_first
-step_first_lem file cs xs n m t cs' ys' a row b em e er eb =
-    rw (er, eb, sym em) (ap (λ (s : StepOutcome). record { cells = s.cells; row = s.row ++ drop m xs; answer = s.answer }) e)
 
 -- ---- A refused call changes nothing
 

@@ -1,4 +1,4 @@
--- The calls on the first of nine records that are held by value: the others remain.
+-- The calls on the first of nine records: the others remain.
 use Rattle.std.specs.Prelude.{cond, List, ◌++◌, ℕ, leb, take, drop}
 use Rattle.records.specs.declared.record.Task.{Task}
 use Rattle.stepping.specs.Call.{StartOutcome, start_of, BeginOutcome, begin_of, StepOutcome, step_of}

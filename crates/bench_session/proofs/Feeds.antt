@@ -1,5 +1,4 @@
 -- The input is fed byte by byte.
-use Rattle.std.specs.Prelude.{Result}
 use mathlib.Core.Path.{◌≡◌, refl, ap, subst, sym, ◌∙◌}
 use mathlib.Core.Bool.{Bool, true}
 use mathlib.Core.List.{List, [], ◌∷◌, ◌++◌, append_assoc}
@@ -8,13 +7,10 @@ use native.Mathlib.Numerals.{add-one}
 use borrow.Author.Tests.{eq-eqb, ne_eqb}
 use lib.ListN.{length, take, get_or}
 use lib.Seq.{take-suc}
+use Rattle.arrayvec.specs.ArrayVec.{ArrayVec}
 use Rattle.bench_session.specs.declared.session.Session.{Session}
-use Rattle.bench_session.specs.declared.session.Taken.{Taken}
-use Rattle.bench_session.specs.declared.session.Tested.{Tested}
 use Rattle.bench_lines.specs.Line.{newline}
-use Rattle.bench_session.specs.Session.{Fed, Consumed, Follows, Yields, Reports, Continues, Reached, new_session, keep_byte, end_line, feed_byte, feed, and_then, joined, most_reads}
-use Rattle.table.specs.declared.Shape.{Shape}
-use Rattle.refusal.specs.declared.Refusal.{Refusal}
+use Rattle.bench_session.specs.Session.{Fed, Consumed, Follows, Yields, Continues, Reached, new_session, keep_byte, end_line, feed_byte, feed, and_then, joined, most_reads}
 
 -- Byte 10 ends a line; any other byte is kept.
 pub feed_newline : (file : List ℕ) (fed : Fed) (b : ℕ) → b ≡ newline → end_line file fed ≡ feed_byte file fed b
@@ -59,11 +55,8 @@ feed_none file fed = refl
 pub follows_as : (session : Session) (fed other : Fed) → fed ≡ other → Follows fed session → Follows other session
 follows_as session fed other e = subst (λ (f : Fed). Follows f session) e
 
-pub yields_as : (r : Taken) (out other : Consumed) → out ≡ other → Yields r out → Yields r other
-yields_as r out other e = subst (λ (o : Consumed). Yields r o) e
-
-pub reports_as : (r : Tested) (out other : Result Shape Refusal) → out ≡ other → Reports r out → Reports r other
-reports_as r out other e = subst (λ (o : Result Shape Refusal). Reports r o) e
+pub yields_as : (session : Session) (text : ArrayVec ℕ) (out other : Consumed) → out ≡ other → Yields session text out → Yields session text other
+yields_as session text out other e = subst (λ (o : Consumed). Yields session text o) e
 
 -- What a session has reached before the first read, and after one read more.
 pub reached_none : (file : List ℕ) (session : Session) → Follows new_session session → Reached file session true 0

@@ -1,25 +1,21 @@
 -- The steps of a task until its operation has ended.
-use mathlib.Core.Path.{◌≡◌, refl, subst}
-use mathlib.Core.Bool.{true, false, and-false}
-use mathlib.Core.List.{List}
+use Prim.Base.{tt}
+use Rattle.std.specs.Prelude.{Result, Ok, Err, ⊤}
+use mathlib.Core.Path.{◌≡◌, refl, ap, sym, ◌∙◌}
+use mathlib.Core.Bool.{true, false}
+use mathlib.Core.List.{List, ◌++◌}
 use Prim.Native.Nat.{ℕ, zero, suc, ◌-◌, ◌<◌}
 use native.Mathlib.Omega.{arith}
-use borrow.Author.Tests.{eq-eqb, ne_eqb}
+use lib.ListN.{take, drop, take-append-drop}
+use Rattle.refusal.specs.declared.Refusal.{Refusal}
 use Rattle.cells.specs.Ceiling.{greatest_ceiling}
 use Rattle.records.specs.declared.record.Task.{Task}
-use Rattle.bench_lines.specs.declared.command.Command.{Command}
-use Rattle.bench_lines.specs.declared.reply.Reply.{Reply}
+use Rattle.stepping.specs.Call.{StartOutcome}
+use Rattle.bench_row.specs.First.{start_first}
+use Rattle.bench_row.proofs.Firsts.{refused_start_first}
+use Rattle.bench_lines.specs.declared.reply.Reply.TheVariants as reply
 use Rattle.bench_session.specs.declared.run.Bench.{Bench}
-use Rattle.bench_session.specs.declared.run.Printed.{Printed}
-use Rattle.bench_session.specs.declared.run.Handled.{Handled}
-use Rattle.bench_session.specs.Run.{most_turns, runs_on, finish_from, step_bench, Printing, Prints, reply_printed, refuse_line, act_of, is_start, serve_command}
-
--- A bench and a reply as they are served.
-abbrev pub bench_of : List ℕ → List Task → ℕ → Bench
-bench_of cells row n = record { cells = cells; row = row; tasks = n }
-
-abbrev pub handled_as : Bench → Reply → Handled
-handled_as bench reply = record { bench = bench; reply = reply }
+use Rattle.bench_session.specs.Run.{Handled, cell_count, start_held, start_bench, most_turns, runs_on, finish_from, step_bench}
 
 -- The greatest number of turns.
 pub most_turns_lem : most_turns ≡ greatest_ceiling
@@ -43,19 +39,14 @@ pub finish_none : (k : ℕ) (file : List ℕ) (t : ℕ) (out : Handled) → k �
 unfolding finish_from
 finish_none k file t out e = rw e
 
--- The same under another name.
-pub prints_as : (r : Printed) (out other : Printing) → out ≡ other → Prints r out → Prints r other
-prints_as r out other e = subst (λ (s : Printing). Prints r s) e
-
--- On a run, and for a start, a command is served as it stands; else it is refused.
-pub serve_run : (file : List ℕ) (bench : Bench) (command : Command) → (bench.tasks ≡ 0 → ⊥) → act_of file bench command ≡ serve_command file bench command
-unfolding serve_command
-serve_run file bench command h = simp (ne_eqb bench.tasks 0 h)
-
-pub serve_start : (file : List ℕ) (bench : Bench) (command : Command) → is_start command ≡ true → act_of file bench command ≡ serve_command file bench command
-unfolding serve_command
-serve_start file bench command e = simp (e, and-false)
-
-pub serve_refused : (file : List ℕ) (bench : Bench) (command : Command) → bench.tasks ≡ 0 → is_start command ≡ false → reply_printed (refuse_line bench) ≡ serve_command file bench command
-unfolding serve_command
-serve_refused file bench command h e = simp (eq-eqb bench.tasks 0 h, e)
+-- A refused start leaves the cells and the records as they were.
+pub refused_keeps : (file : List ℕ) (bench : Bench) (k n m : ℕ) (cells : List ℕ) (row : List Task) (a : Result ⊤ Refusal) (c : Refusal) → n ≡ k → m ≡ cell_count n
+    → ◌≡◌ {A = StartOutcome} (record { cells = cells; row = row; answer = a }) (start_first file (take m bench.cells) bench.row n) → a ≡ Err c
+    → ◌≡◌ {A = Handled} (record { bench = record { cells = cells ++ drop m bench.cells; row = row; tasks = bench.tasks }; reply = reply.Refused c }) (start_bench file bench k)
+unfolding start_bench start_held
+refused_keeps file bench k n m cells row a c count lent e refused =
+    let answered : (start_first file (take m bench.cells) bench.row n).answer ≡ Err c = sym (ap (λ (s : StartOutcome). s.answer) e) ∙ refused in
+    let kept = refused_start_first file (take m bench.cells) bench.row n c answered in
+    let same : cells ≡ take m bench.cells = ap (λ (s : StartOutcome). s.cells) e ∙ kept.1 in
+    let rows : row ≡ bench.row = ap (λ (s : StartOutcome). s.row) e ∙ kept.0 in
+    rw (sym count, sym lent, answered, same, rows, take-append-drop m bench.cells) refl

@@ -22,8 +22,7 @@ use Rattle.stepping.proofs.Theorem.{touches_one_cell}
 use Rattle.bench_row.specs.First.{first_count, begin_first, step_first}
 use Rattle.bench_row.proofs.Firsts.{first_few}
 use Rattle.bench_session.specs.declared.run.Bench.{Bench}
-use Rattle.bench_session.specs.declared.run.Handled.{Handled}
-use Rattle.bench_session.specs.Run.{cell_count, lent, begin_bench, step_held, step_bench, runs_on, finish_from}
+use Rattle.bench_session.specs.Run.{Handled, cell_count, lent, begin_bench, step_held, step_bench, runs_on, finish_from}
 
 -- ---- The first cells and records
 

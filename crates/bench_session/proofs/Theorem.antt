@@ -22,8 +22,7 @@ use Rattle.bench_lines.specs.declared.reply.Reply.TheVariants as reply
 use Rattle.bench_row.specs.First.{step_first}
 use Rattle.bench_lines.specs.Line.{cells_line}
 use Rattle.bench_session.specs.declared.run.Bench.{Bench}
-use Rattle.bench_session.specs.declared.run.Handled.{Handled}
-use Rattle.bench_session.specs.Run.{lent, step_reply, step_held, step_bench, runs_on, finish_from, most_turns, finish_bench, serve_command}
+use Rattle.bench_session.specs.Run.{Handled, lent, step_reply, step_held, step_bench, runs_on, finish_from, most_turns, finish_bench, serve_command}
 use Rattle.bench_session.specs.Statement.{EndsBy, bench_after, Finishes, WholeOutput, CutAnywhere, ServedUnfinished, PrintsPoint, PrintsPoints}
 use Rattle.bench_session.proofs.Feeds.{feed_parts}
 use Rattle.bench_session.proofs.Outputs.{whole_output, output_unfinished}

@@ -1,7 +1,7 @@
 -- docs/FORMATS.md, "The bench": how a command is served. The bench holds nine cells and nine records; a run of n tasks has
 -- the first n + 1 and the first n of them, and before an accepted start n is 0.
-use Rattle.std.specs.Prelude.{◌≡◌, Bool, true, false, not, ◌&&◌, cond, List, ◌++◌, ℕ, zero, suc, ◌+◌, eqb, ltb, take, drop, replicate, Result, Ok, Err, ⊤}
-use Rattle.io.specs.Counts.{IsPrefixLen}
+use Prim.Base.{tt}
+use Rattle.std.specs.Prelude.{Bool, true, false, not, ◌&&◌, cond, List, ◌++◌, ℕ, zero, suc, ◌+◌, eqb, ltb, take, drop, replicate, Result, Ok, Err, ⊤}
 use Rattle.refusal.specs.declared.Refusal.TheVariants as cause
 use Rattle.cells.specs.Ceiling.{greatest_ceiling}
 use Rattle.table.specs.declared.Shape.{Shape}
@@ -16,11 +16,7 @@ use Rattle.bench_lines.specs.declared.command.Command.{Command}
 use Rattle.bench_lines.specs.declared.command.Command.TheVariants as command
 use Rattle.bench_lines.specs.declared.reply.Reply.{Reply}
 use Rattle.bench_lines.specs.declared.reply.Reply.TheVariants as reply
-use Rattle.bench_lines.specs.declared.reply.Text.{Text}
 use Rattle.bench_session.specs.declared.run.Bench.{Bench}
-use Rattle.bench_session.specs.declared.run.Handled.{Handled}
-use Rattle.bench_session.specs.declared.run.Stepped.{Stepped}
-use Rattle.bench_session.specs.declared.run.Printed.{Printed}
 use Rattle.bench_lines.specs.Line.{reply_line, cells_line}
 use Rattle.refusal.specs.declared.Refusal.{Refusal}
 use Rattle.stepping.specs.declared.answer.Progress.{Progress}
@@ -37,6 +33,16 @@ cell_count n = cond (ltb n 9) (n + 1) 9
 -- What is lent to a call: the first of the cells and of the records.
 abbrev pub lent : Bench → Store
 lent bench = record { cells = take (cell_count bench.tasks) bench.cells; row = take (first_count bench.tasks) bench.row }
+
+-- What is left after a line, and what is answered.
+pub record Handled : Type 0 where
+  pub bench : Bench
+  pub reply : Reply
+
+-- What is left after a step, and what it answered.
+pub record Stepped : Type 0 where
+  pub bench : Bench
+  pub answer : Result Progress Refusal
 
 -- ---- `n k`: an accepted start opens another run; a refused one leaves the present run as it is
 
@@ -167,11 +173,3 @@ is_start command.Unknown = false
 -- Before an accepted start every other command is refused with 13 too.
 unfoldable pub serve_command : List ℕ → Bench → Command → Printing
 serve_command file bench c = cond (eqb bench.tasks 0 && not (is_start c)) (reply_printed (refuse_line bench)) (act_of file bench c)
-
--- A text spells these bytes: they are its first ones, with its count within the buffer.
-abbrev pub Spells : Text → List ℕ → Type 0
-Spells text bytes = IsPrefixLen text.len text.bytes × (take text.len text.bytes ≡ bytes)
-
--- The bench that is left, and the text that is printed.
-abbrev pub Prints : Printed → Printing → Type 0
-Prints r out = (r.bench ≡ out.bench) × Spells r.text out.text

@@ -1,14 +1,13 @@
 -- docs/FORMATS.md, "The bench": what it prints for a table file and an input, line by line, and the same byte by byte.
-use Rattle.std.specs.Prelude.{◌≡◌, Bool, true, false, cond, ◌⊎◌, List, [], ◌∷◌, ◌++◌, ℕ, ◌+◌, min, eqb, ltb, length, take, Result, Ok, Err}
+use Rattle.std.specs.Prelude.{◌≡◌, Bool, true, false, cond, Option, Some, None, Result, Ok, Err, List, [], ◌∷◌, ◌++◌, ℕ, ◌<◌, eqb, ltb, length}
+use Rattle.arrayvec.specs.ArrayVec.{ArrayVec}
 use Rattle.table.specs.Check.{check_of}
 use Rattle.bench_lines.specs.declared.reply.Reply.TheVariants as reply
 use Rattle.bench_session.specs.declared.run.Bench.{Bench}
 use Rattle.bench_session.specs.declared.session.Session.{Session}
-use Rattle.bench_session.specs.declared.session.Taken.{Taken}
-use Rattle.bench_session.specs.declared.session.Tested.{Tested}
 use Rattle.bench_lines.specs.Command.{command_of}
 use Rattle.bench_lines.specs.Line.{newline, reply_line}
-use Rattle.bench_session.specs.Run.{Printing, unstarted_bench, serve_command, Spells}
+use Rattle.bench_session.specs.Run.{Printing, unstarted_bench, serve_command}
 use Rattle.table.specs.declared.Shape.{Shape}
 use Rattle.refusal.specs.declared.Refusal.{Refusal}
 
@@ -107,23 +106,23 @@ finish_text file fed = last_text file fed.bench fed.line
 abbrev pub longest_line : ℕ
 longest_line = 64
 
--- An array and a length hold the bytes of a line: the first 64 of them, and any greater length for every longer line.
-abbrev pub Holds : (bytes held : List ℕ) → ℕ → Type 0
-Holds bytes held len =
-    (length held ≡ longest_line)
-    × ((min len (longest_line + 1) ≡ min (length bytes) (longest_line + 1)) × (take len held ≡ take longest_line bytes))
+-- A buffer holds the bytes of a line; of a line that is too long there is none.
+abbrev pub Holds : List ℕ → Option (ArrayVec ℕ) → Type 0
+Holds bytes (Some line) = line.items ≡ bytes
+Holds bytes None = longest_line < length bytes
 
 -- A session is what has been fed to it.
 abbrev pub Follows : Fed → Session → Type 0
-Follows fed session = (session.bench ≡ fed.bench) × Holds fed.line session.line session.len
+Follows fed session = (session.bench ≡ fed.bench) × Holds fed.line session.line
 
 -- The session that is left, and the text that is printed.
-abbrev pub Yields : Taken → Consumed → Type 0
-Yields r out = Follows out.fed r.session × Spells r.text out.text
+abbrev pub Yields : Session → ArrayVec ℕ → Consumed → Type 0
+Yields session text out = Follows out.fed session × (text.items ≡ out.text)
 
--- Whether a table is served, and what is printed for it.
-abbrev pub Reports : Tested → Result Shape Refusal → Type 0
-Reports r out = (r.served ≡ is_served out) × Spells r.text (table_text out)
+-- Whether a table is served; if it is, nothing is printed for it, and else a text.
+abbrev pub Reports : Result (Unit {0}) (ArrayVec ℕ) → Result Shape Refusal → Type 0
+Reports (Ok served) out = (is_served out ≡ true) × ([] ≡ table_text out)
+Reports (Err text) out = (is_served out ≡ false) × (text.items ≡ table_text out)
 
 -- ---- The reads of the input
 
@@ -152,6 +151,7 @@ Reached file session more reads =
 unfoldable pub most_reads : ℕ
 most_reads = 18446744073709551615
 
--- Why the reading stopped: the last read gave no byte, or all reads were made.
-abbrev pub Stopped : Bool → ℕ → Type 0
-Stopped more reads = (more ≡ false) ⊎ (reads ≡ most_reads)
+-- Why the reading stopped, after some reads: the last read gave no byte, or all reads were made.
+abbrev pub Ended : List ℕ → Session → Result ℕ ℕ → Type 0
+Ended file session (Ok reads) = Reached file session false reads
+Ended file session (Err reads) = Reached file session true reads × (reads ≡ most_reads)

@@ -1,6 +1,6 @@
 // What the bench reads and writes: the table and the input are read, and the texts are printed in their order.
 ghost use Rattle.io.specs.Counts.{IsPrefixLen};
-ghost use Rattle.bench_session.specs.Session.{Fed, Follows, Continues, Reached, Stopped, feed};
+ghost use Rattle.bench_session.specs.Session.{Fed, Follows, Continues, Ended, new_session, feed};
 
 use crate::session::Session;
 use crate::{output, session};
@@ -12,80 +12,57 @@ use std::rt::Files;
 // Nothing says that an input ends, so the reads are counted. No input reaches this number of them.
 const MOST_READS: u64 = u64::MAX;
 
-// The session after a read, and whether the read gave a byte, so that there may be more.
-#[derive(Clone, Copy)]
-struct Part {
-    session: Session,
-    more: bool,
-}
-
-// The session after all reads, whether the last one gave a byte, and how many there were.
-#[derive(Clone, Copy)]
-struct Input {
-    session: Session,
-    more: bool,
-    reads: u64,
-}
-
 // A part of the input, byte by byte.
 #[tactic(auto, using(crate::proofs::Feeds::follows_as, crate::proofs::Feeds::feed_none, crate::proofs::Feeds::feed_more))]
-fn take_all<P: Print>(rt: &P, file: &[u8], session: Session, bytes: &[u8]) -> Session
-    ensures { (fed : Fed) → Follows fed session → Follows (feed file.now fed bytes.now).fed result }
+fn take_all<P: Print>(rt: &P, file: &[u8], session: &mut Session, bytes: &[u8])
+    ensures { (fed : Fed) → Follows fed session.old → Follows (feed file.now fed bytes.now).fed session.new }
 {
-    let mut held = session;
-    let mut i = 0;
-    while i < bytes.len() {
-        let taken = session::take_in(file, held, bytes[i]);
-        output::print(rt, taken.text);
-        held = taken.session;
-        i += 1;
+    for byte in bytes {
+        let text = session::take_in(file, session, *byte);
+        output::print(rt, &text);
     }
-    held
 }
 
-// One read of the input. An error counts as the end.
-fn read_part<R: Read, P: Print>(reader: &mut R, rt: &P, file: &[u8], session: Session) -> Part
-    ensures { Continues file.now session result.session result.more }
+// One read of the input: whether it gave a byte, so that there may be more. An error counts as the end.
+fn read_part<R: Read, P: Print>(reader: &mut R, rt: &P, file: &[u8], session: &mut Session) -> bool
+    ensures { Continues file.now session.old session.new result }
 {
-    let mut buffer = [0u8; 4096];
+    let mut buffer = [0; 4096];
     let count = reading::read_some(reader, &mut buffer);
-    Part {
-        session: take_all(rt, file, session, &buffer[..count]),
-        more: count > 0,
-    }
+    take_all(rt, file, session, &buffer[..count]);
+    count > 0
 }
 
-// The input to its end: the first read that gives no byte is the last.
+// The input to its end, and the number of its reads: the first read that gives no byte is the last. `Err` stands for an
+// input that goes on after all reads.
 #[tactic(auto, using(crate::proofs::Feeds::reached_none, crate::proofs::Feeds::reached_more, crate::proofs::Feeds::most_reads_lem))]
-fn read_all<R: Read, P: Print>(reader: &mut R, rt: &P, file: &[u8]) -> Input
-    ensures { Reached file.now result.session result.more result.reads × Stopped result.more result.reads }
+fn read_all<R: Read, P: Print>(
+    reader: &mut R,
+    rt: &P,
+    file: &[u8],
+    session: &mut Session,
+) -> Result<u64, u64>
+    ensures { Follows new_session session.old → Ended file.now session.new result }
 {
-    let mut session = session::begin();
-    let mut reads = 0;
-    let mut more = true;
-    while reads < MOST_READS && more {
-        reads += 1;
-        let part = read_part(reader, rt, file, session);
-        session = part.session;
-        more = part.more;
+    for read in 0..MOST_READS {
+        if !read_part(reader, rt, file, session) {
+            return Ok(read + 1);
+        }
     }
-    Input {
-        session,
-        more,
-        reads,
-    }
+    Err(MOST_READS)
 }
 
 // The table is tested first. Without one that is served no line is read.
 fn serve_file<H: io::Input + Print>(rt: &H, file: &[u8]) {
-    let tested = session::test_table(file);
-    output::print(rt, tested.text);
-    if tested.served {
-        let mut reader = rt.reader();
-        let input = read_all(&mut reader, rt, file);
-        let session = input.session;
-        output::print(rt, session::finish(file, session));
+    if let Err(text) = session::test_table(file) {
+        output::print(rt, &text);
+        return;
     }
+    let mut session = session::begin();
+    let mut reader = rt.reader();
+    let _ = read_all(&mut reader, rt, file, &mut session);
+    let text = session::finish(file, &mut session);
+    output::print(rt, &text);
 }
 
 // The file table.bin. One that can't be opened counts as one without bytes.
@@ -100,7 +77,7 @@ fn read_table<H: Files>(rt: &H, room: &mut [u8]) -> usize
 
 // The bench program. One byte more than the longest file is room enough to see that a file is too long.
 pub fn serve_all<H: Files + io::Input + Print>(rt: &H) {
-    let mut room = [0u8; table::LONGEST_FILE + 1];
+    let mut room = [0; table::LONGEST_FILE + 1];
     let len = read_table(rt, &mut room);
     serve_file(rt, &room[..len]);
 }

@@ -1,11 +1,8 @@
-use mathlib.Core.Path.{◌≡◌}
-use Prim.Native.Nat.{◌+◌, ◌*◌, ◌-◌, ◌≤◌}
-use lib.ListN.{length, take}
-use Rattle.bench_lines.specs.Line.{Appended, parted_in}
+use Rattle.std.proofs.Common.{◌≡◌, ◌+◌, ◌*◌, ◌≤◌, ◌++◌, length, take}
+use Rattle.bench_lines.specs.Line.{parted_in}
 use Rattle.bench_lines.proofs.text.put_fields.Given as goal
 
-abbrev pub invariant-loop-i : goal.invariant-loop-i
-invariant-loop-i l = (l.i ≤ length l.values) × ((length l.out ≡ length l.initial.out) × (Appended l.initial.out l.at (parted_in l.base (take l.i l.values)) l.out l.end × (l.end ≤ l.at + 21 * l.i)))
-
-abbrev pub decreases-loop-i : goal.decreases-loop-i
-decreases-loop-i l = length l.values - l.i
+abbrev pub invariant-loop-value : goal.invariant-loop-value
+invariant-loop-value l =
+    (l.out.items ≡ l.initial.out.items ++ parted_in l.base (take l.value-index l.values))
+    × (length l.out.items ≤ length l.initial.out.items + 21 * l.value-index)

@@ -1,14 +1,13 @@
-use Rattle.std.proofs.Common.{arith}
-use Rattle.bench_session.proofs.Feeds.{reached_none, reached_more, most_reads_lem}
+use Rattle.std.proofs.Common.{◌∙◌, sym}
+use Rattle.bench_session.proofs.Feeds.{reached_more}
 use Rattle.bench_session.proofs.input.read_all.Goals as goal
 
-pub loop-reads-init : goal.loop-reads-init
-loop-reads-init g c = (reached_none _ c.begin-session.result c.begin-session.ensures, omega (arith, most_reads_lem))
+pub returns-then-not-read_part : goal.returns-then-not-read_part
+returns-then-not-read_part g c =
+    let part = c.read_part.ensures in
+    λ f. reached_more _ _ _ _ _ _ (c.loop-read.invariant f) (part.0, (part.1.0, sym c.if-not-read_part.true ∙ part.1.1))
 
-pub loop-reads-preserved : goal.loop-reads-preserved
-loop-reads-preserved g c =
-    let before = c.loop-reads in
-    let part = c.read_part-part in (
-      reached_more _ before.session part.result.session before.more part.result.more before.reads before.invariant.0 part.ensures,
-      omega (arith, most_reads_lem),
-    )
+pub loop-read-preserved : goal.loop-read-preserved
+loop-read-preserved g c =
+    let part = c.read_part.ensures in
+    λ f. reached_more _ _ _ _ _ _ (c.loop-read.invariant f) (part.0, (part.1.0, sym c.if-not-read_part.false ∙ part.1.1))

@@ -1,10 +1,7 @@
-use Prim.Native.Nat.{◌-◌, ◌≤◌}
-use lib.ListN.{length, take}
+use Rattle.std.proofs.Common.{take}
 use Rattle.bench_session.specs.Session.{Fed, Follows, feed}
 use Rattle.bench_session.proofs.input.take_all.Given as goal
 
-abbrev pub invariant-loop-i : goal.invariant-loop-i
-invariant-loop-i g l = (l.i ≤ length l.bytes) × ((fed : Fed) → Follows fed l.initial.held → Follows (feed l.file fed (take l.i l.bytes)).fed l.held)
-
-abbrev pub decreases-loop-i : goal.decreases-loop-i
-decreases-loop-i g l = length l.bytes - l.i
+abbrev pub invariant-loop-byte : goal.invariant-loop-byte
+invariant-loop-byte g l =
+    (fed : Fed) → Follows fed l.initial.session → Follows (feed l.file fed (take l.byte-index l.bytes)).fed l.session
