@@ -1,5 +1,4 @@
 -- How many of nine records are lent, and what a refused call leaves of them.
-use Prim.Base.{tt}
 use Rattle.std.specs.Prelude.{Result, Ok, Err}
 use mathlib.Core.Path.{◌≡◌, refl, ap, ◌∙◌}
 use mathlib.Core.Bool.{Bool, true, false}

@@ -1,5 +1,4 @@
 -- Runs as the bench opens them: what an accepted start leaves, and what the theorem about runs tells of the steps after it.
-use Prim.Base.{tt}
 use Rattle.std.specs.Prelude.{Ok, Err}
 use mathlib.Core.Path.{◌≡◌, refl, ap, ◌∙◌}
 use mathlib.Core.List.{List, [], ◌∷◌, ◌++◌}

@@ -1,5 +1,4 @@
 -- The steps of a task until its operation has ended.
-use Prim.Base.{tt}
 use Rattle.std.specs.Prelude.{Result, Ok, Err, ⊤}
 use mathlib.Core.Path.{◌≡◌, refl, ap, sym, ◌∙◌}
 use mathlib.Core.Bool.{true, false}

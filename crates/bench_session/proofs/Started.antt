@@ -1,5 +1,4 @@
 -- A start on the bench: an accepted one opens a run on the first cells and records.
-use Prim.Base.{tt}
 use Rattle.std.specs.Prelude.{Result, Ok, Err, ⊤}
 use mathlib.Core.Path.{◌≡◌, refl, sym, subst, ◌∙◌}
 use mathlib.Core.Bool.{Bool, true, false}

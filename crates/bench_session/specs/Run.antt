@@ -1,6 +1,5 @@
 -- docs/FORMATS.md, "The bench": how a command is served. The bench holds nine cells and nine records; a run of n tasks has
 -- the first n + 1 and the first n of them, and before an accepted start n is 0.
-use Prim.Base.{tt}
 use Rattle.std.specs.Prelude.{Bool, true, false, not, ◌&&◌, cond, List, ◌++◌, ℕ, zero, suc, ◌+◌, eqb, ltb, take, drop, replicate, Result, Ok, Err, ⊤}
 use Rattle.refusal.specs.declared.Refusal.TheVariants as cause
 use Rattle.cells.specs.Ceiling.{greatest_ceiling}
