@@ -11,3 +11,4 @@ pub mod Sums
 pub mod Lowest
 pub mod Positive
 pub mod Joined
+pub mod Chains
