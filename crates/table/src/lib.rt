@@ -76,7 +76,7 @@ fn number_at(file: &[u8], at: usize) -> u16
 }
 
 // Whether the last six bytes are the mark.
-#[tactic(auto, unfolding(crate::specs::File::ends_in_mark))]
+#[tactic(auto, using(crate::proofs::Marked::mark_ends))]
 pub fn ends_in_mark(file: &[u8]) -> bool
     ensures { result ≡ ends_in_mark file.now }
 {
