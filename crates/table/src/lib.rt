@@ -13,8 +13,6 @@ use refusal::Refusal;
 
 const TRAILER_BYTES: usize = 16;
 
-pub const MARK_BYTES: usize = 6;
-
 // The mark in which a file ends: checked here, and written by every writer.
 pub const MARK: [u8; 6] = *b"DRIVE1";
 
