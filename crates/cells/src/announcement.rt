@@ -2,7 +2,7 @@
 ghost use Rattle.std.specs.Prelude.{◌≡◌};
 ghost use Rattle.cells.specs.Layout.{announcement_word, announcement_of};
 
-use crate::{bit, layout};
+use crate::layout;
 
 #[derive(Clone, Copy)]
 pub enum Announcement {
@@ -17,14 +17,14 @@ pub fn announcement_word(announcement: Announcement, marks: u8) -> u64
     ensures { result ≡ announcement_word announcement marks }
 {
     match announcement {
-        Announcement::Empty => marks as u64,
-        Announcement::Operation(o) => marks as u64
+        Announcement::Empty => u64::from(marks),
+        Announcement::Operation(o) => u64::from(marks)
             + layout::KIND_PLACE
-            + o as u64 * layout::PAYLOAD_PLACE,
-        Announcement::Response(r, moved) => marks as u64
+            + u64::from(o) * layout::PAYLOAD_PLACE,
+        Announcement::Response(r, moved) => u64::from(marks)
             + 2 * layout::KIND_PLACE
-            + r as u64 * layout::PAYLOAD_PLACE
-            + bit::bit_of(moved) as u64 * layout::ANNOUNCEMENT_MOVED_PLACE,
+            + u64::from(r) * layout::PAYLOAD_PLACE
+            + u64::from(moved) * layout::ANNOUNCEMENT_MOVED_PLACE,
     }
 }
 

@@ -19,12 +19,11 @@ pub const GREATEST: u32 = 512_000;
 pub fn ceiling_for(tasks: usize) -> Ceiling
     ensures { result ≡ ceiling_of tasks }
 {
-    if tasks < 1 {
-        return Ceiling::Refused(Refusal::Row);
+    match tasks {
+        1..=8 => {
+            let n = tasks as u32;
+            Ceiling::Steps(1_000 * (n * n * n))
+        }
+        _ => Ceiling::Refused(Refusal::Row),
     }
-    if tasks > 8 {
-        return Ceiling::Refused(Refusal::Row);
-    }
-    let n = tasks as u32;
-    Ceiling::Steps(1_000 * (n * n * n))
 }

@@ -9,12 +9,8 @@ use crate::layout;
 pub fn fill_image(cells: &mut [u64], state: u16)
     ensures { cells.new ≡ image_in (length cells.old) state }
 {
-    let mut i = 0;
-    while i < cells.len() {
-        cells[i] = 0;
-        i += 1;
-    }
-    if 0 < cells.len() {
-        cells[0] = state as u64 * layout::STATE_PLACE;
+    cells.fill(0);
+    if let Some(head) = cells.first_mut() {
+        *head = u64::from(state) * layout::STATE_PLACE;
     }
 }
