@@ -87,10 +87,13 @@ pub fn read_shape(file: &[u8]) -> Shape
     ensures { result ≡ shape_of file.now }
 {
     let at = file.len().saturating_sub(TRAILER_BYTES);
-    let low = number_at(file, at);
-    let high = number_at(file, at + 2);
     Shape {
-        offset: u32::from(low) + 65_536 * u32::from(high),
+        offset: u32::from_le_bytes([
+            byte_at(file, at),
+            byte_at(file, at + 1),
+            byte_at(file, at + 2),
+            byte_at(file, at + 3),
+        ]),
         states: number_at(file, at + 4),
         operations: number_at(file, at + 6),
         start: number_at(file, at + 8),
