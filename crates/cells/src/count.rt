@@ -9,7 +9,7 @@ use crate::layout;
 fn marks_in(word: u64) -> u64
     ensures { result ≡ marks_in word }
 {
-    u64::from((word % layout::MARKS_SIZE).count_ones())
+    u64::from(layout::MARKS.of(word).count_ones())
 }
 
 // How many marks are set in all cells together.

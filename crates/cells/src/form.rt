@@ -12,7 +12,7 @@ const GREATEST_HOLDER: u64 = 8;
 fn marks_in_form(word: u64, tasks: usize) -> bool
     ensures { result ≡ marks_in_form tasks word }
 {
-    tasks > layout::MARK_COUNT || word % layout::MARKS_SIZE < 1 << tasks
+    tasks > layout::MARK_COUNT || layout::MARKS.of(word) < 1 << tasks
 }
 
 // Whether a head is in form, for a table with `states` states and a run of `tasks` tasks.
@@ -20,10 +20,10 @@ fn marks_in_form(word: u64, tasks: usize) -> bool
 pub fn head_in_form(word: u64, states: u32, tasks: usize) -> bool
     ensures { result ≡ head_in_form states tasks word }
 {
-    let state = word / layout::STATE_PLACE % layout::STATE_SIZE;
-    let response = word / layout::RESPONSE_PLACE % layout::RESPONSE_SIZE;
-    let holder = word / layout::HOLDER_PLACE % layout::HOLDER_SIZE;
-    let moved = word / layout::HEAD_MOVED_PLACE % layout::MOVED_SIZE;
+    let state = layout::STATE.of(word);
+    let response = layout::RESPONSE.of(word);
+    let holder = layout::HOLDER.of(word);
+    let moved = layout::HEAD_MOVED.of(word);
     word < layout::HEAD_SIZE
         && marks_in_form(word, tasks)
         && state < u64::from(states)
@@ -36,10 +36,10 @@ pub fn head_in_form(word: u64, states: u32, tasks: usize) -> bool
 pub fn announcement_in_form(word: u64, operations: u32, tasks: usize) -> bool
     ensures { result ≡ announcement_in_form operations tasks word }
 {
-    let kind = word / layout::KIND_PLACE % layout::KIND_SIZE;
-    let gap = word / layout::GAP_PLACE % layout::GAP_SIZE;
-    let payload = word / layout::PAYLOAD_PLACE % layout::PAYLOAD_SIZE;
-    let moved = word / layout::ANNOUNCEMENT_MOVED_PLACE % layout::MOVED_SIZE;
+    let kind = layout::KIND.of(word);
+    let gap = layout::GAP.of(word);
+    let payload = layout::PAYLOAD.of(word);
+    let moved = layout::ANNOUNCEMENT_MOVED.of(word);
     let in_place = match kind {
         0 => payload == 0 && moved == 0,
         1 => payload < u64::from(operations) && moved == 0,

@@ -11,6 +11,6 @@ pub fn fill_image(cells: &mut [u64], state: u16)
 {
     cells.fill(0);
     if let Some(head) = cells.first_mut() {
-        *head = u64::from(state) * layout::STATE_PLACE;
+        *head = u64::from(state) * layout::STATE.place;
     }
 }
