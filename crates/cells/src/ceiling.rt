@@ -15,7 +15,7 @@ pub const GREATEST: u32 = 512_000;
 
 // The ceiling for a number of tasks: 1,000 × n × n × n for 1 to 8. There is none for 0 or over 8, which is tested first: only a
 // number of tasks in range is multiplied.
-#[tactic(auto, using(crate::proofs::Ceilings::products, crate::proofs::Ceilings::ceiling_cubed, crate::proofs::Ceilings::no_ceiling))]
+#[tactic(auto, using(crate::proofs::Ceilings::ceiling_cubed, crate::proofs::Ceilings::no_ceiling))]
 pub fn ceiling_for(tasks: usize) -> Ceiling
     ensures { result ≡ ceiling_of tasks }
 {
