@@ -12,7 +12,7 @@ use Rattle.refusal.specs.declared.Refusal.{Refusal}
 use Rattle.cells.proofs.Ceilings.{no_ceiling}
 use Rattle.table.specs.Check.{check_of}
 use Rattle.records.specs.declared.record.Task.{Task}
-use Rattle.stepping.specs.Call.{with_row, StartOutcome, with_cells, admit_start_of, start_of, begin_of, step_of}
+use Rattle.stepping.specs.Call.{filled, with_row, StartOutcome, with_cells, admit_start_of, start_of, begin_of, step_of}
 use Rattle.stepping.proofs.Refused.{refused_start, refused_begin_row, refused_step_row}
 use Rattle.bench_row.specs.First.{first_count, start_first, begin_first, step_first}
 use Rattle.table.specs.declared.Shape.{Shape}
@@ -33,7 +33,7 @@ pub long_start : (file cs : List ℕ) (ys zs : List Task) → 8 < length ys → 
 unfolding start_of admit_start_of
 long_start file cs ys zs h g = at (check_of file)
   where
-    at : (checked : Result Shape Refusal) → (with_cells (length cs) (length ys) (with_row (length ys) checked)).answer ≡ (with_cells (length cs) (length zs) (with_row (length zs) checked)).answer
+    at : (checked : Result Shape Refusal) → (filled cs ys (with_cells (length cs) (length ys) (with_row (length ys) checked))).answer ≡ (filled cs zs (with_cells (length cs) (length zs) (with_row (length zs) checked))).answer
     at (Ok shape) = rw (no_ceiling (length ys) (λ _ l. omega arith), no_ceiling (length zs) (λ _ l. omega arith)) refl
     at (Err c) = refl
 

@@ -1,16 +1,15 @@
 -- The count of ones of the low byte is the count of marks, for marks of any width.
-use mathlib.Core.Path.{◌≡◌, refl, ◌∙◌}
+use mathlib.Core.Path.{◌≡◌, refl}
 use mathlib.Core.Bool.{Bool, true, false}
-use mathlib.Core.List.{List, [], ◌∷◌, ◌++◌}
-use Prim.Native.Nat.{ℕ, zero, suc, ◌+◌, ◌/◌, ◌%◌, ◌^◌, ◌<◌, ◌≤◌}
+use mathlib.Core.List.{List, [], ◌∷◌}
+use Prim.Native.Nat.{ℕ, zero, suc, ◌+◌, ◌/◌, ◌%◌, ◌^◌, ◌≤◌}
 use native.Mathlib.Nat.{mod-lt}
-use native.Mathlib.Numerals.{add-one, one-add}
+use native.Mathlib.Numerals.{one-add}
 use native.Mathlib.Omega.{arith}
 use borrow.Author.Tests.{eqb-true, eqb-false}
 use lib.Count.{ones, ones_in, ones_cat}
-use lib.ListN.{length, take, get_or}
 use lib.Pow.{mod-pow-add, pow_pos}
-use lib.Seq.{take-suc}
+use Rattle.std.specs.List.{fold, sum_by}
 use Rattle.laws.specs.Bit.{bit}
 use Rattle.laws.proofs.Choice.{pick_le}
 use Rattle.cells.specs.Count.{marks_below, marks_in, mark_count}
@@ -43,15 +42,19 @@ unfolding marks_below
 marks_at_most zero w = omega arith
 marks_at_most (suc k) w = omega (arith, marks_at_most k w, pick_le (has k w) 1)
 
-count_append : (xs ys : List ℕ) → mark_count (xs ++ ys) ≡ mark_count xs + mark_count ys
-unfolding mark_count
-count_append [] ys = omega arith
-count_append (x ∷ xs) ys = omega (arith, count_append xs ys)
+-- The ones of the low byte are the word's marks.
+pub byte_ones : (w : ℕ) → ones (w % 256) ≡ marks_in w
+unfolding marks_in
+byte_ones w = count_ones marks_width w
 
--- One cell more.
-pub count_more : (xs : List ℕ) (i : ℕ) → i < length xs → mark_count (take (i + 1) xs) ≡ mark_count (take i xs) + marks_in (get_or xs i 0)
+summed_from : (ws : List ℕ) (n : ℕ) → n + mark_count ws ≡ fold (λ a w. a + marks_in w) n ws
 unfolding mark_count
-count_more xs i h = rw (add-one, take-suc xs i 0) (count_append (take i xs) (get_or xs i 0 ∷ []) ∙ omega arith)
+summed_from [] n = omega arith
+summed_from (w ∷ ws) n = omega (arith, summed_from ws (n + marks_in w))
+
+-- The marks of all cells are the sum of each cell's.
+pub count_summed : (ws : List ℕ) → mark_count ws ≡ sum_by marks_in ws
+count_summed ws = omega (arith, summed_from ws 0)
 
 -- A word has at most eight marks.
 pub marks_in_most : (w : ℕ) → marks_in w ≤ 8

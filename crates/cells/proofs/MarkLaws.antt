@@ -6,15 +6,19 @@ use Prim.Native.Nat.{ℕ, zero, suc, ◌+◌, ◌*◌, ◌/◌, ◌%◌, ◌^◌
 use native.Mathlib.Nat.{pow-succ', div-div-eq-div-mul, div-eq_of_lt}
 use native.Mathlib.Numerals.{add-one}
 use native.Mathlib.Omega.{arith}
-use borrow.Author.Tests.{eqb-true, eqb-false, leb-true, leb-false}
+use borrow.Author.Tests.{eqb-true, eqb-false, leb-true, leb-false, lt-ltb}
 use lib.Arith.{half_le}
-use lib.Dec.{eqb, leb}
-use lib.Pow.{mod-pow-add, pow-lt}
+use lib.Dec.{eqb, leb, ltb}
+use lib.Pow.{mod-pow-add, pow-lt, pow_mono}
 use Rattle.cells.specs.Marks.{none, has, add, remove}
 
 -- A mark shifted to its place in a word of 64 bits loses nothing.
 pub one_shifted : (i : ℕ) → i < 64 → 1 * 2 ^ i % 2 ^ 64 ≡ 2 ^ i
 one_shifted i h = omega (arith, pow-lt h)
+
+-- With more tasks than marks every mark is of one of them.
+pub marks_within : (n w : ℕ) → 8 < n → ltb (w % 256) (2 ^ n) ≡ true
+marks_within n w h = lt-ltb (w % 256) (2 ^ n) (omega (arith, pow_mono {i = 8} {j = n} (omega arith)))
 
 -- A number is its half twice and its lowest bit; what stands at index i + 1 stands at index i of the half.
 half_place : (i w : ℕ) → w / 2 ^ suc i ≡ w / 2 / 2 ^ i

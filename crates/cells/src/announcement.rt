@@ -2,7 +2,7 @@
 ghost use Rattle.std.specs.Prelude.{◌≡◌};
 ghost use Rattle.cells.specs.Layout.{announcement_word, announcement_of};
 
-use crate::{bit, layout};
+use crate::layout;
 
 #[derive(Clone, Copy)]
 pub enum Announcement {
@@ -17,14 +17,14 @@ pub fn announcement_word(announcement: Announcement, marks: u8) -> u64
     ensures { result ≡ announcement_word announcement marks }
 {
     match announcement {
-        Announcement::Empty => marks as u64,
-        Announcement::Operation(o) => marks as u64
-            + layout::KIND_PLACE
-            + o as u64 * layout::PAYLOAD_PLACE,
-        Announcement::Response(r, moved) => marks as u64
-            + 2 * layout::KIND_PLACE
-            + r as u64 * layout::PAYLOAD_PLACE
-            + bit::bit_of(moved) as u64 * layout::ANNOUNCEMENT_MOVED_PLACE,
+        Announcement::Empty => u64::from(marks),
+        Announcement::Operation(o) => u64::from(marks)
+            + layout::KIND.place
+            + u64::from(o) * layout::PAYLOAD.place,
+        Announcement::Response(r, moved) => u64::from(marks)
+            + 2 * layout::KIND.place
+            + u64::from(r) * layout::PAYLOAD.place
+            + u64::from(moved) * layout::ANNOUNCEMENT_MOVED.place,
     }
 }
 
@@ -33,9 +33,9 @@ pub fn announcement_word(announcement: Announcement, marks: u8) -> u64
 pub fn read_announcement(word: u64) -> Announcement
     ensures { result ≡ announcement_of word }
 {
-    let kind = word / layout::KIND_PLACE % layout::KIND_SIZE;
-    let payload = (word / layout::PAYLOAD_PLACE % layout::PAYLOAD_SIZE) as u16;
-    let moved = word / layout::ANNOUNCEMENT_MOVED_PLACE % layout::MOVED_SIZE == 1;
+    let kind = layout::KIND.of(word);
+    let payload = layout::PAYLOAD.of(word) as u16;
+    let moved = layout::ANNOUNCEMENT_MOVED.of(word) == 1;
     match kind {
         1 => Announcement::Operation(payload),
         2 => Announcement::Response(payload, moved),

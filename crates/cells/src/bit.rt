@@ -6,5 +6,5 @@ ghost use Rattle.laws.specs.Bit.{bit};
 pub fn bit_of(yes: bool) -> u8
     ensures { result ≡ bit yes }
 {
-    if yes { 1 } else { 0 }
+    u8::from(yes)
 }

@@ -1,5 +1,5 @@
 // Which words are in form.
-ghost use Rattle.std.specs.Prelude.{◌&&◌, ◌≡◌, eqb};
+ghost use Rattle.std.specs.Prelude.{◌≡◌};
 ghost use Rattle.cells.specs.Form.{head_in_form, announcement_in_form, marks_in_form};
 
 use crate::layout;
@@ -8,24 +8,11 @@ use crate::layout;
 const GREATEST_HOLDER: u64 = 8;
 
 // Whether a word has marks of tasks below `tasks` alone.
-#[tactic(auto, using(crate::proofs::MarkLaws::one_shifted), unfolding(crate::specs::Form::marks_in_form))]
+#[tactic(auto, using(crate::proofs::MarkLaws::one_shifted, crate::proofs::MarkLaws::marks_within), unfolding(crate::specs::Form::marks_in_form))]
 fn marks_in_form(word: u64, tasks: usize) -> bool
     ensures { result ≡ marks_in_form tasks word }
 {
-    if tasks > layout::MARK_COUNT {
-        return true;
-    }
-    word % layout::MARKS_SIZE < 1 << tasks
-}
-
-// Whether the other field fits, and the bit that says that the state moved is 0.
-fn fits_unmoved(fits: bool, moved: u64) -> bool
-    ensures { result ≡ (fits && eqb moved 0) }
-{
-    if fits {
-        return moved == 0;
-    }
-    false
+    tasks > layout::MARK_COUNT || layout::MARKS.of(word) < 1 << tasks
 }
 
 // Whether a head is in form, for a table with `states` states and a run of `tasks` tasks.
@@ -33,29 +20,15 @@ fn fits_unmoved(fits: bool, moved: u64) -> bool
 pub fn head_in_form(word: u64, states: u32, tasks: usize) -> bool
     ensures { result ≡ head_in_form states tasks word }
 {
-    let state = word / layout::STATE_PLACE % layout::STATE_SIZE;
-    let response = word / layout::RESPONSE_PLACE % layout::RESPONSE_SIZE;
-    let holder = word / layout::HOLDER_PLACE % layout::HOLDER_SIZE;
-    let moved = word / layout::HEAD_MOVED_PLACE % layout::MOVED_SIZE;
-    if word >= layout::HEAD_SIZE {
-        return false;
-    }
-    if !marks_in_form(word, tasks) {
-        return false;
-    }
-    if state >= states as u64 {
-        return false;
-    }
-    if holder > GREATEST_HOLDER {
-        return false;
-    }
-    if holder > tasks as u64 {
-        return false;
-    }
-    if holder == 0 {
-        return fits_unmoved(response == 0, moved);
-    }
-    true
+    let state = layout::STATE.of(word);
+    let response = layout::RESPONSE.of(word);
+    let holder = layout::HOLDER.of(word);
+    let moved = layout::HEAD_MOVED.of(word);
+    word < layout::HEAD_SIZE
+        && marks_in_form(word, tasks)
+        && state < u64::from(states)
+        && holder <= (tasks as u64).min(GREATEST_HOLDER)
+        && (holder != 0 || (response == 0 && moved == 0))
 }
 
 // Whether an announcement is in form, for a table with `operations` operations and a run of `tasks` tasks.
@@ -63,23 +36,15 @@ pub fn head_in_form(word: u64, states: u32, tasks: usize) -> bool
 pub fn announcement_in_form(word: u64, operations: u32, tasks: usize) -> bool
     ensures { result ≡ announcement_in_form operations tasks word }
 {
-    let kind = word / layout::KIND_PLACE % layout::KIND_SIZE;
-    let gap = word / layout::GAP_PLACE % layout::GAP_SIZE;
-    let payload = word / layout::PAYLOAD_PLACE % layout::PAYLOAD_SIZE;
-    let moved = word / layout::ANNOUNCEMENT_MOVED_PLACE % layout::MOVED_SIZE;
-    if word >= layout::ANNOUNCEMENT_SIZE {
-        return false;
-    }
-    if !marks_in_form(word, tasks) {
-        return false;
-    }
-    if gap != 0 {
-        return false;
-    }
-    match kind {
-        0 => fits_unmoved(payload == 0, moved),
-        1 => fits_unmoved(payload < operations as u64, moved),
+    let kind = layout::KIND.of(word);
+    let gap = layout::GAP.of(word);
+    let payload = layout::PAYLOAD.of(word);
+    let moved = layout::ANNOUNCEMENT_MOVED.of(word);
+    let in_place = match kind {
+        0 => payload == 0 && moved == 0,
+        1 => payload < u64::from(operations) && moved == 0,
         2 => true,
         _ => false,
-    }
+    };
+    word < layout::ANNOUNCEMENT_SIZE && marks_in_form(word, tasks) && gap == 0 && in_place
 }

@@ -2,7 +2,7 @@
 ghost use Rattle.std.specs.Prelude.{◌≡◌};
 ghost use Rattle.cells.specs.Layout.{head_word, head_of};
 
-use crate::{bit, layout};
+use crate::layout;
 
 #[derive(Clone, Copy)]
 pub enum Head {
@@ -25,18 +25,18 @@ pub fn head_word(head: Head, marks: u8) -> u64
     ensures { result ≡ head_word head marks }
 {
     match head {
-        Head::Free { state } => marks as u64 + state as u64 * layout::STATE_PLACE,
+        Head::Free { state } => u64::from(marks) + u64::from(state) * layout::STATE.place,
         Head::Held {
             state,
             task,
             response,
             moved,
         } => {
-            marks as u64
-                + state as u64 * layout::STATE_PLACE
-                + response as u64 * layout::RESPONSE_PLACE
-                + (task as u64 + 1) * layout::HOLDER_PLACE
-                + bit::bit_of(moved) as u64 * layout::HEAD_MOVED_PLACE
+            u64::from(marks)
+                + u64::from(state) * layout::STATE.place
+                + u64::from(response) * layout::RESPONSE.place
+                + (u64::from(task) + 1) * layout::HOLDER.place
+                + u64::from(moved) * layout::HEAD_MOVED.place
         }
     }
 }
@@ -46,10 +46,10 @@ pub fn head_word(head: Head, marks: u8) -> u64
 pub fn read_head(word: u64) -> Head
     ensures { result ≡ head_of word }
 {
-    let state = (word / layout::STATE_PLACE % layout::STATE_SIZE) as u16;
-    let response = (word / layout::RESPONSE_PLACE % layout::RESPONSE_SIZE) as u16;
-    let holder = word / layout::HOLDER_PLACE % layout::HOLDER_SIZE;
-    let moved = word / layout::HEAD_MOVED_PLACE % layout::MOVED_SIZE == 1;
+    let state = layout::STATE.of(word) as u16;
+    let response = layout::RESPONSE.of(word) as u16;
+    let holder = layout::HOLDER.of(word);
+    let moved = layout::HEAD_MOVED.of(word) == 1;
     if holder == 0 {
         return Head::Free { state };
     }

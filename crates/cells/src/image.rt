@@ -5,16 +5,12 @@ ghost use Rattle.cells.specs.Image.{image_in};
 use crate::layout;
 
 // Fills the lent cells with the image of a state: the head, then an empty announcement for each task.
-#[tactic(auto, using(laws::proofs::Lists::filled_more, laws::proofs::Lists::filled_all, crate::proofs::Images::image_made, crate::proofs::Images::image_none))]
+#[tactic(auto, using(crate::proofs::Images::image_made, crate::proofs::Images::image_none))]
 pub fn fill_image(cells: &mut [u64], state: u16)
     ensures { cells.new ≡ image_in (length cells.old) state }
 {
-    let mut i = 0;
-    while i < cells.len() {
-        cells[i] = 0;
-        i += 1;
-    }
-    if 0 < cells.len() {
-        cells[0] = state as u64 * layout::STATE_PLACE;
+    cells.fill(0);
+    if let Some(head) = cells.first_mut() {
+        *head = u64::from(state) * layout::STATE.place;
     }
 }

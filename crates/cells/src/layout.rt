@@ -1,43 +1,74 @@
-// The layout of the cells by place values.
+// The layout of the cells: the fields of a head and of an announcement.
+ghost use Rattle.std.specs.Prelude.{◌≡◌, ◌/◌, ◌%◌, ◌<◌};
 
 // How many tasks have a mark.
 pub const MARK_COUNT: usize = 8;
 
-// How many values each field holds.
-pub const MARKS_SIZE: u64 = 256;
+// A field of a word: the place value of its lowest bit, and how many values it holds.
+#[derive(Clone, Copy)]
+pub struct Field {
+    pub place: u64,
+    pub size: u64,
+}
 
-pub const STATE_SIZE: u64 = 256;
+impl Field {
+    // What the field holds in a word.
+    pub fn of(self, word: u64) -> u64
+        requires { (0 < self.place) × (0 < self.size) }
+        ensures { result ≡ word / self.place % self.size }
+    {
+        word / self.place % self.size
+    }
+}
 
-pub const RESPONSE_SIZE: u64 = 256;
+// The marks are the lowest field of each cell.
+pub const MARKS: Field = Field {
+    place: 1,
+    size: 256,
+};
 
-pub const HOLDER_SIZE: u64 = 16;
+// The other fields of a head, each above the one before, and where it ends.
+pub const STATE: Field = Field {
+    place: MARKS.place * MARKS.size,
+    size: 256,
+};
 
-pub const MOVED_SIZE: u64 = 2;
+pub const RESPONSE: Field = Field {
+    place: STATE.place * STATE.size,
+    size: 256,
+};
 
-pub const KIND_SIZE: u64 = 4;
+pub const HOLDER: Field = Field {
+    place: RESPONSE.place * RESPONSE.size,
+    size: 16,
+};
 
-pub const GAP_SIZE: u64 = 64;
+pub const HEAD_MOVED: Field = Field {
+    place: HOLDER.place * HOLDER.size,
+    size: 2,
+};
 
-pub const PAYLOAD_SIZE: u64 = 256;
+pub const HEAD_SIZE: u64 = HEAD_MOVED.place * HEAD_MOVED.size;
 
-// Where each field of the head starts, and where the head ends.
-pub const STATE_PLACE: u64 = MARKS_SIZE;
+// The other fields of an announcement, each above the one before, and where it ends.
+pub const KIND: Field = Field {
+    place: MARKS.place * MARKS.size,
+    size: 4,
+};
 
-pub const RESPONSE_PLACE: u64 = STATE_PLACE * STATE_SIZE;
+pub const GAP: Field = Field {
+    place: KIND.place * KIND.size,
+    size: 64,
+};
 
-pub const HOLDER_PLACE: u64 = RESPONSE_PLACE * RESPONSE_SIZE;
+pub const PAYLOAD: Field = Field {
+    place: GAP.place * GAP.size,
+    size: 256,
+};
 
-pub const HEAD_MOVED_PLACE: u64 = HOLDER_PLACE * HOLDER_SIZE;
+pub const ANNOUNCEMENT_MOVED: Field = Field {
+    place: PAYLOAD.place * PAYLOAD.size,
+    size: 2,
+};
 
-pub const HEAD_SIZE: u64 = HEAD_MOVED_PLACE * MOVED_SIZE;
-
-// Where each field of an announcement starts, and where it ends.
-pub const KIND_PLACE: u64 = MARKS_SIZE;
-
-pub const GAP_PLACE: u64 = KIND_PLACE * KIND_SIZE;
-
-pub const PAYLOAD_PLACE: u64 = GAP_PLACE * GAP_SIZE;
-
-pub const ANNOUNCEMENT_MOVED_PLACE: u64 = PAYLOAD_PLACE * PAYLOAD_SIZE;
-
-pub const ANNOUNCEMENT_SIZE: u64 = ANNOUNCEMENT_MOVED_PLACE * MOVED_SIZE;
+pub const ANNOUNCEMENT_SIZE: u64 = ANNOUNCEMENT_MOVED.place * ANNOUNCEMENT_MOVED.size;

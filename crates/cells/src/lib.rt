@@ -9,5 +9,5 @@ pub mod count;
 pub mod form;
 pub mod head;
 pub mod image;
-pub mod layout;
+mod layout;
 pub mod marks;

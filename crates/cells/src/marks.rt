@@ -13,9 +13,10 @@ fn mark_of(task: usize) -> u64
     ensures { result ≡ mark_of task }
 {
     if task < layout::MARK_COUNT {
-        return 1 << task;
+        1 << task
+    } else {
+        0
     }
-    0
 }
 
 // Whether a task has its mark in a word; a task beyond the marks never has.
@@ -23,10 +24,7 @@ fn mark_of(task: usize) -> u64
 pub fn has_mark(word: u64, task: usize) -> bool
     ensures { result ≡ has_mark task word }
 {
-    if task >= layout::MARK_COUNT {
-        return false;
-    }
-    (word >> task) % 2 == 1
+    task < layout::MARK_COUNT && (word >> task) % 2 == 1
 }
 
 // Link: the word with a task's mark.
@@ -35,9 +33,10 @@ pub fn add_mark(word: u64, task: usize) -> u64
     ensures { result ≡ add_mark task word }
 {
     if has_mark(word, task) {
-        return word;
+        word
+    } else {
+        word + mark_of(task)
     }
-    word + mark_of(task)
 }
 
 // Release: the word without a task's mark.
@@ -45,8 +44,9 @@ pub fn add_mark(word: u64, task: usize) -> u64
 pub fn remove_mark(word: u64, task: usize) -> u64
     ensures { result ≡ remove_mark task word }
 {
-    if !has_mark(word, task) {
-        return word;
+    if has_mark(word, task) {
+        word - mark_of(task)
+    } else {
+        word
     }
-    word - mark_of(task)
 }

@@ -13,3 +13,4 @@ pub mod Lowest
 pub mod Positive
 pub mod Joined
 pub mod Chains
+pub mod Endings

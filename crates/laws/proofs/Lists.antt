@@ -8,7 +8,7 @@ use native.Mathlib.Omega.{arith}
 use borrow.Author.Tests.{ltb-true, ltb-false}
 use lib.Dec.{ltb}
 use lib.ListN.{length, get_or, take, drop, set, replicate, length-drop, replicate-append-replicate}
-use lib.Seq.{get_or-set_same, length-take-le, set_out, take_all, take_at, take-suc-set, sets, sets-eq}
+use lib.Seq.{get_or-set_same, length-take-le, set_out, take_all, take_at, take-suc-set, take-suc, sets, sets-eq}
 
 -- All that follows a place is the rest of the list.
 pub to_the_end : (xs : List ℕ) (k : ℕ) → take (length xs - k) (drop k xs) ≡ drop k xs
@@ -50,6 +50,11 @@ sets_more l i (x ∷ first) second =
 pub sets_then : {A : Type 0} (l : List A) (i : ℕ) (first second : List A) {j : ℕ} {once twice : List A}
     → once ≡ sets l i first → j ≡ i + length first → twice ≡ sets once j second → twice ≡ sets l i (first ++ second)
 sets_then l i first second e h f = f ∙ rw (e, h) (sets_more l i first second)
+
+-- One element more is written.
+pub sets_next : {A : Type 0} (l vs : List A) (at i : ℕ) (d : A) → i < length vs → sets l at (take (i + 1) vs) ≡ set (sets l at (take i vs)) (at + i) (get_or vs i d)
+sets_next l vs at i d h =
+    rw (add-one, take-suc vs i d) (sym (sets_more l at (take i vs) (get_or vs i d ∷ [])) ∙ ap (λ (k : ℕ). set (sets l at (take i vs)) (at + k) (get_or vs i d)) (length-take-le i vs (omega arith)))
 
 -- A list that is written from the start stands there, and after it the rest as it was.
 pub written_over : {A : Type 0} (new old : List A) → length new ≤ length old → sets old 0 new ≡ new ++ drop (length new) old

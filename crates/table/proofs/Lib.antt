@@ -1,3 +1,4 @@
+pub mod Marked
 pub mod Fitting
 pub mod Accepted
 pub mod Answers

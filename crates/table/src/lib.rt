@@ -13,8 +13,6 @@ use refusal::Refusal;
 
 const TRAILER_BYTES: usize = 16;
 
-pub const MARK_BYTES: usize = 6;
-
 // The mark in which a file ends: checked here, and written by every writer.
 pub const MARK: [u8; 6] = *b"DRIVE1";
 
@@ -50,21 +48,14 @@ pub struct Entry {
 fn byte_at(file: &[u8], at: usize) -> u8
     ensures { result ≡ byte_at file.now at }
 {
-    if at < file.len() { file[at] } else { 0 }
-}
-
-// A byte as a wider number.
-fn wide(byte: u8) -> u16
-    ensures { result ≡ byte }
-{
-    byte as u16
+    file.get(at).copied().unwrap_or(0)
 }
 
 // A product that can't wrap: it stays below 2^32.
 fn product(a: u16, b: u16) -> usize
     ensures { (result ≡ a * b) × (result < 2 ^ 32) }
 {
-    (a as usize) * (b as usize)
+    usize::from(a) * usize::from(b)
 }
 
 // A number of two bytes, the low byte first.
@@ -72,37 +63,15 @@ fn number_at(file: &[u8], at: usize) -> u16
     requires { at < 2 ^ 63 }
     ensures { result ≡ number16 file.now at }
 {
-    wide(byte_at(file, at)) + 256 * wide(byte_at(file, at + 1))
+    u16::from_le_bytes([byte_at(file, at), byte_at(file, at + 1)])
 }
 
 // Whether the last six bytes are the mark.
-#[tactic(auto, using(laws::proofs::Below::all_of, laws::proofs::Below::not_all), unfolding(crate::specs::File::ends_in_mark))]
+#[tactic(auto, using(crate::proofs::Marked::mark_ends))]
 pub fn ends_in_mark(file: &[u8]) -> bool
     ensures { result ≡ ends_in_mark file.now }
 {
-    if file.len() < MARK_BYTES {
-        return false;
-    }
-    let at = file.len() - MARK_BYTES;
-    let mut i = 0;
-    while i < MARK_BYTES {
-        if file[at + i] != MARK[i] {
-            return false;
-        }
-        i += 1;
-    }
-    true
-}
-
-// Where the trailer of a file of this length starts; 0 where the file is too short.
-fn trailer_at(length: usize) -> usize
-    ensures { result ≡ length - trailer_bytes }
-{
-    if length < TRAILER_BYTES {
-        0
-    } else {
-        length - TRAILER_BYTES
-    }
+    file.ends_with(&MARK)
 }
 
 // What the trailer says. It is read from the file's start where the file is too short.
@@ -110,11 +79,14 @@ fn trailer_at(length: usize) -> usize
 pub fn read_shape(file: &[u8]) -> Shape
     ensures { result ≡ shape_of file.now }
 {
-    let at = trailer_at(file.len());
-    let low = number_at(file, at);
-    let high = number_at(file, at + 2);
+    let at = file.len().saturating_sub(TRAILER_BYTES);
     Shape {
-        offset: low as u32 + 65_536 * (high as u32),
+        offset: u32::from_le_bytes([
+            byte_at(file, at),
+            byte_at(file, at + 1),
+            byte_at(file, at + 2),
+            byte_at(file, at + 3),
+        ]),
         states: number_at(file, at + 4),
         operations: number_at(file, at + 6),
         start: number_at(file, at + 8),
@@ -126,13 +98,7 @@ pub fn read_shape(file: &[u8]) -> Shape
 fn file_fits(file: &[u8]) -> bool
     ensures { result ≡ file_fits file.now }
 {
-    if file.len() < TRAILER_BYTES {
-        return false;
-    }
-    if LONGEST_FILE < file.len() {
-        return false;
-    }
-    ends_in_mark(file)
+    (TRAILER_BYTES..=LONGEST_FILE).contains(&file.len()) && ends_in_mark(file)
 }
 
 // Whether states, operations and start state are in range: cause 2 does not hold.
@@ -140,21 +106,9 @@ fn file_fits(file: &[u8]) -> bool
 fn dimensions_fit(shape: Shape) -> bool
     ensures { result ≡ dimensions_fit shape }
 {
-    let states = shape.states;
-    let operations = shape.operations;
-    if states < 1 {
-        return false;
-    }
-    if MOST_STATES < states {
-        return false;
-    }
-    if operations < 1 {
-        return false;
-    }
-    if MOST_OPERATIONS < operations {
-        return false;
-    }
-    shape.start < states
+    (1..=MOST_STATES).contains(&shape.states)
+        && (1..=MOST_OPERATIONS).contains(&shape.operations)
+        && shape.start < shape.states
 }
 
 // The length of a file of this shape: text, entries and trailer.
@@ -170,10 +124,7 @@ pub fn file_length(shape: Shape) -> usize
 fn length_fits(length: usize, shape: Shape) -> bool
     ensures { result ≡ length_fits length shape }
 {
-    if GREATEST_OFFSET < shape.offset {
-        return false;
-    }
-    file_length(shape) == length
+    shape.offset <= GREATEST_OFFSET && file_length(shape) == length
 }
 
 // The first of causes 1 to 3 that holds, or the file's shape.
@@ -200,10 +151,10 @@ pub fn read_entry(file: &[u8], shape: Shape, state: u16, operation: u16) -> Entr
     ensures { result ≡ entry_of file.now shape state operation }
 {
     let row = product(state, shape.operations);
-    let place = shape.offset as usize + ENTRY_BYTES * (row + operation as usize);
+    let place = shape.offset as usize + ENTRY_BYTES * (row + usize::from(operation));
     Entry {
-        next: wide(byte_at(file, place)),
-        response: wide(byte_at(file, place + 1)),
+        next: u16::from(byte_at(file, place)),
+        response: u16::from(byte_at(file, place + 1)),
     }
 }
 
@@ -217,35 +168,19 @@ pub fn entry_in_range(file: &[u8], shape: Shape, state: u16, operation: u16) -> 
 }
 
 // Whether cause 4 holds on none of one operation's entries.
-#[tactic(auto, using(laws::proofs::Below::all_of, laws::proofs::Below::not_all), unfolding(crate::specs::Entries::operation_in_range))]
+#[tactic(auto, using(laws::proofs::Chains::all_any), unfolding(crate::specs::Entries::operation_in_range))]
 fn operation_in_range(file: &[u8], shape: Shape, operation: u16) -> bool
     ensures { result ≡ operation_in_range file.now shape operation }
 {
-    let states = shape.states;
-    let mut state: u16 = 0;
-    while state < states {
-        if !entry_in_range(file, shape, state, operation) {
-            return false;
-        }
-        state += 1;
-    }
-    true
+    (0..shape.states).all(|state| entry_in_range(file, shape, state, operation))
 }
 
 // Whether cause 4 holds on no entry.
-#[tactic(auto, using(laws::proofs::Below::all_of, laws::proofs::Below::not_all), unfolding(crate::specs::Entries::entries_in_range))]
+#[tactic(auto, using(laws::proofs::Chains::all_any), unfolding(crate::specs::Entries::entries_in_range))]
 pub fn entries_in_range(file: &[u8], shape: Shape) -> bool
     ensures { result ≡ entries_in_range file.now shape }
 {
-    let operations = shape.operations;
-    let mut operation: u16 = 0;
-    while operation < operations {
-        if !operation_in_range(file, shape, operation) {
-            return false;
-        }
-        operation += 1;
-    }
-    true
+    (0..shape.operations).all(|operation| operation_in_range(file, shape, operation))
 }
 
 // The first of causes 1 to 4 that holds, 4 on all entries, or the file's shape.

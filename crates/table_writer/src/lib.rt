@@ -3,10 +3,9 @@
 // Every public function is total: what would stand past the room's end is not written.
 #![tactic(auto)]
 
-ghost use Rattle.std.specs.Prelude.{◌≡◌, [], ◌∷◌, ◌≤◌, ◌^◌, set};
+ghost use Rattle.std.specs.Prelude.{◌≡◌, ◌≤◌, ◌^◌, set};
 ghost use Rattle.std.proofs.lemmas.List.Edits.{sets};
-ghost use Rattle.table.specs.File.{mark};
-ghost use Rattle.table_writer.specs.Written.{bytes16, bytes32, entry_bytes_of, trailer_of};
+ghost use Rattle.table_writer.specs.Written.{entry_bytes_of, trailer_of};
 
 use table::{Entry, Shape};
 
@@ -19,41 +18,14 @@ fn put(room: &mut [u8], at: usize, byte: u8)
     }
 }
 
-// Writes two bytes.
-fn put_two(room: &mut [u8], at: usize, first: u8, second: u8)
+// Writes bytes from a place of the room on.
+#[tactic(auto, using(laws::proofs::Lists::sets_next))]
+fn put_bytes(room: &mut [u8], at: usize, bytes: &[u8])
     requires { at ≤ 2 ^ 33 }
-    ensures { room.new ≡ sets room.old at (first ∷ second ∷ []) }
+    ensures { room.new ≡ sets room.old at bytes.now }
 {
-    put(room, at, first);
-    put(room, at + 1, second);
-}
-
-// Writes a number of two bytes, the low byte first.
-fn put16(room: &mut [u8], at: usize, value: u16)
-    requires { at ≤ 2 ^ 33 }
-    ensures { room.new ≡ sets room.old at (bytes16 value) }
-{
-    put_two(room, at, (value % 256) as u8, (value / 256) as u8);
-}
-
-// Writes a number of four bytes, the low byte first.
-fn put32(room: &mut [u8], at: usize, value: u32)
-    requires { at ≤ 2 ^ 32 }
-    ensures { room.new ≡ sets room.old at (bytes32 value) }
-{
-    put16(room, at, (value % 65_536) as u16);
-    put16(room, at + 2, (value / 65_536) as u16);
-}
-
-// Writes the mark.
-fn put_mark(room: &mut [u8], at: usize)
-    requires { at ≤ 2 ^ 33 }
-    ensures { room.new ≡ sets room.old at mark }
-{
-    let mut i = 0;
-    while i < table::MARK_BYTES {
-        put(room, at + i, table::MARK[i]);
-        i += 1;
+    for (i, byte) in bytes.iter().enumerate() {
+        put(room, at + i, *byte);
     }
 }
 
@@ -63,7 +35,7 @@ pub fn write_entry(room: &mut [u8], at: u32, entry: Entry)
 {
     let next = (entry.next % 256) as u8;
     let response = (entry.response % 256) as u8;
-    put_two(room, at as usize, next, response);
+    put_bytes(room, at as usize, &[next, response]);
 }
 
 // Writes a trailer at a place of the room.
@@ -71,9 +43,9 @@ pub fn write_trailer(room: &mut [u8], at: u32, shape: Shape)
     ensures { room.new ≡ sets room.old at (trailer_of shape) }
 {
     let place = at as usize;
-    put32(room, place, shape.offset);
-    put16(room, place + 4, shape.states);
-    put16(room, place + 6, shape.operations);
-    put16(room, place + 8, shape.start);
-    put_mark(room, place + 10);
+    put_bytes(room, place, &shape.offset.to_le_bytes());
+    put_bytes(room, place + 4, &shape.states.to_le_bytes());
+    put_bytes(room, place + 6, &shape.operations.to_le_bytes());
+    put_bytes(room, place + 8, &shape.start.to_le_bytes());
+    put_bytes(room, place + 10, &table::MARK);
 }
