@@ -75,33 +75,35 @@ pub fn read_phase(number: u32) -> PhaseRead
 }
 
 // The number of a phase.
-pub fn phase_number(phase: Phase) -> u32
-    ensures { result ≡ phase_number phase }
-{
-    match phase {
-        Phase::Idle => 0,
-        Phase::ReadOnly => 1,
-        Phase::Announce => 2,
-        Phase::Poll => 3,
-        Phase::LoadHead => 4,
-        Phase::LinkHead => 5,
-        Phase::LoadPriority => 6,
-        Phase::LoadOwn => 7,
-        Phase::LoadExit => 8,
-        Phase::LinkExit => 9,
-        Phase::ClearExit => 10,
-        Phase::ReleaseExit => 11,
-        Phase::Retract => 12,
-        Phase::ClearHead => 13,
-        Phase::ReloadClear => 14,
-        Phase::Apply(j) => 16 + j as u32,
-        Phase::ReloadApply(j) => 24 + j as u32,
-        Phase::LoadHelped(j) => 32 + j as u32,
-        Phase::LinkHelped(j) => 40 + j as u32,
-        Phase::Validate(j) => 48 + j as u32,
-        Phase::HandOver(j) => 56 + j as u32,
-        Phase::ReloadHandOver(j) => 64 + j as u32,
-        Phase::Release(j) => 72 + j as u32,
-        Phase::ReloadRelease(j) => 80 + j as u32,
+impl From<Phase> for u32 {
+    ghost from_gives = { λ phase number. number ≡ phase_number phase };
+
+    fn from(phase: Phase) -> u32 {
+        match phase {
+            Phase::Idle => 0,
+            Phase::ReadOnly => 1,
+            Phase::Announce => 2,
+            Phase::Poll => 3,
+            Phase::LoadHead => 4,
+            Phase::LinkHead => 5,
+            Phase::LoadPriority => 6,
+            Phase::LoadOwn => 7,
+            Phase::LoadExit => 8,
+            Phase::LinkExit => 9,
+            Phase::ClearExit => 10,
+            Phase::ReleaseExit => 11,
+            Phase::Retract => 12,
+            Phase::ClearHead => 13,
+            Phase::ReloadClear => 14,
+            Phase::Apply(j) => 16 + u32::from(j),
+            Phase::ReloadApply(j) => 24 + u32::from(j),
+            Phase::LoadHelped(j) => 32 + u32::from(j),
+            Phase::LinkHelped(j) => 40 + u32::from(j),
+            Phase::Validate(j) => 48 + u32::from(j),
+            Phase::HandOver(j) => 56 + u32::from(j),
+            Phase::ReloadHandOver(j) => 64 + u32::from(j),
+            Phase::Release(j) => 72 + u32::from(j),
+            Phase::ReloadRelease(j) => 80 + u32::from(j),
+        }
     }
 }

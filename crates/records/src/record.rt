@@ -10,7 +10,7 @@ use table::Shape;
 
 // Which fields a phase uses, and their forms and ranges, stand in docs/RECORDS.md. Its size is 32 bytes, without gaps.
 #[repr(C)]
-#[derive(Clone, Copy)]
+#[derive(Clone, Copy, PartialEq, Eq)]
 pub struct Task {
     // A saved head.
     pub head: u64,
@@ -54,12 +54,11 @@ pub fn idle_task(priority: u16) -> Task
 pub fn idle_in_form(tasks: usize, own: Task) -> bool
     ensures { result ≡ idle_in_form tasks own }
 {
-    usize::from(own.priority) < tasks
-        && own.head == 0
-        && own.announcement == 0
-        && own.payload == 0
-        && own.steps == 0
-        && own.operation == 0
+    let idle = Task {
+        phase: own.phase,
+        ..idle_task(own.priority)
+    };
+    usize::from(own.priority) < tasks && own == idle
 }
 
 // Whether the task that a phase works for is below `tasks`.

@@ -98,9 +98,9 @@ fn first_phase(file: &[u8], shape: Shape, operation: u16) -> u32
     ensures { result ≡ cond (changing file.now shape operation) (phase_number Phase.Announce) (phase_number Phase.ReadOnly) }
 {
     if reach::is_changing(file, shape, operation) {
-        return phase::phase_number(Phase::Announce);
+        return u32::from(Phase::Announce);
     }
-    phase::phase_number(Phase::ReadOnly)
+    u32::from(Phase::ReadOnly)
 }
 
 // The record of a task that has begun an operation.
