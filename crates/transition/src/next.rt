@@ -108,12 +108,11 @@ fn after_link(word: u64, found: Head) -> Next
 }
 
 // After a swap that links the head.
-fn after_link_head(task: u8, own: Task, made: bool) -> Next
-    ensures { result ≡ cond made (after_link (add_mark task own.head) (head_of own.head)) failed_link }
+fn after_link_head(head: u64, linked: u64, made: bool) -> Next
+    ensures { result ≡ cond made (after_link linked (head_of head)) failed_link }
 {
     if made {
-        let linked = marks::add_mark(own.head, usize::from(task));
-        after_link(linked, head::read_head(own.head))
+        after_link(linked, head::read_head(head))
     } else {
         Next::bare(AFTER_FAILED_LINK)
     }
@@ -147,9 +146,11 @@ fn after_own(task: u8, own: Task, word: u64) -> Next
 }
 
 // By the own mark in a head and by whether the task holds it.
-fn after_load_exit(own: Task, word: u64, marked: bool, holder: bool) -> Next
-    ensures { result ≡ after_exit own.payload word marked holder }
+fn after_load_exit(task: u8, own: Task, word: u64) -> Next
+    ensures { result ≡ after_exit own.payload word (has_mark task word) (holder_is task (head_of word)) }
 {
+    let marked = marks::has_mark(word, usize::from(task));
+    let holder = words::holder_is(task, head::read_head(word));
     match (marked, holder) {
         (true, true) => Next::with_payload_and_head(Phase::ClearExit, own.payload, word),
         (true, false) => Next::with_payload_and_head(Phase::ReleaseExit, own.payload, word),
@@ -170,7 +171,7 @@ fn after_exit_swap(own: Task, made: bool, phase: Phase, head: u64) -> Next
 }
 
 // A conditional store on the head is tried again, or the loop starts again.
-fn again_or_poll(again: bool, phase: Phase, payload: u32, head: u64) -> Next
+fn store_again(again: bool, phase: Phase, payload: u32, head: u64) -> Next
     ensures { result ≡ cond again (Next.Go phase payload head 0) (bare Phase.Poll) }
 {
     if again {
@@ -181,7 +182,7 @@ fn again_or_poll(again: bool, phase: Phase, payload: u32, head: u64) -> Next
 }
 
 // A conditional store on a helped announcement is tried again, or the head is cleared.
-fn again_or_clear(again: bool, phase: Phase, own: Task, announcement: u64) -> Next
+fn help_again(again: bool, phase: Phase, own: Task, announcement: u64) -> Next
     ensures { result ≡ cond again (with_both phase own.head announcement) (with_head Phase.ClearHead own.head) }
 {
     if again {
@@ -272,38 +273,34 @@ pub fn next(
 ) -> Next
     ensures { result ≡ next_of file.now shape task priority own phase found }
 {
-    let place = usize::from(task);
     let word = found.word();
     let made = found.made();
-    let marked = marks::has_mark(word, place);
+    let marked = marks::has_mark(word, usize::from(task));
+    let linked = marks::add_mark(own.head, usize::from(task));
     match phase {
         Phase::Idle => Next::bare(Phase::Idle),
         Phase::ReadOnly => read_end(file, shape, own, word),
         Phase::Announce => Next::bare(Phase::Poll),
         Phase::Poll => after_poll(word),
         Phase::LoadHead => Next::with_head(Phase::LinkHead, word),
-        Phase::LinkHead => after_link_head(task, own, made),
+        Phase::LinkHead => after_link_head(own.head, linked, made),
         Phase::LoadPriority => after_priority(priority, own, word),
         Phase::LoadOwn => after_own(task, own, word),
-        Phase::LoadExit => {
-            after_load_exit(own, word, marked, words::holder_is(task, head::read_head(word)))
-        }
-        Phase::LinkExit => {
-            after_exit_swap(own, made, Phase::ClearExit, marks::add_mark(own.head, place))
-        }
+        Phase::LoadExit => after_load_exit(task, own, word),
+        Phase::LinkExit => after_exit_swap(own, made, Phase::ClearExit, linked),
         Phase::ClearExit => after_exit_swap(own, made, Phase::Retract, 0),
         Phase::ReleaseExit => after_exit_swap(own, made, Phase::Retract, 0),
         Phase::Retract => kept_end(own.payload),
-        Phase::ClearHead => again_or_poll(!made, Phase::ReloadClear, 0, own.head),
-        Phase::ReloadClear => again_or_poll(marked, Phase::ClearHead, 0, word),
+        Phase::ClearHead => store_again(!made, Phase::ReloadClear, 0, own.head),
+        Phase::ReloadClear => store_again(marked, Phase::ClearHead, 0, word),
         Phase::Apply(j) => after_apply(own, j, made),
-        Phase::ReloadApply(j) => again_or_poll(marked, Phase::Apply(j), own.payload, word),
+        Phase::ReloadApply(j) => store_again(marked, Phase::Apply(j), own.payload, word),
         Phase::LoadHelped(j) => Next::with_both(Phase::LinkHelped(j), own.head, word),
         Phase::LinkHelped(j) => after_link_helped(task, own, j, made),
         Phase::Validate(j) => after_validate(own, j, marked),
-        Phase::HandOver(j) => again_or_clear(!made, Phase::ReloadHandOver(j), own, own.announcement),
-        Phase::ReloadHandOver(j) => again_or_clear(marked, Phase::HandOver(j), own, word),
-        Phase::Release(j) => again_or_clear(!made, Phase::ReloadRelease(j), own, own.announcement),
-        Phase::ReloadRelease(j) => again_or_clear(marked, Phase::Release(j), own, word),
+        Phase::HandOver(j) => help_again(!made, Phase::ReloadHandOver(j), own, own.announcement),
+        Phase::ReloadHandOver(j) => help_again(marked, Phase::HandOver(j), own, word),
+        Phase::Release(j) => help_again(!made, Phase::ReloadRelease(j), own, own.announcement),
+        Phase::ReloadRelease(j) => help_again(marked, Phase::Release(j), own, word),
     }
 }

@@ -90,7 +90,9 @@ pub fn response_word(word: u64) -> u64
     let (response, moved) = match head::read_head(word) {
         Head::Free { .. } => (0, false),
         Head::Held {
-            response, moved, ..
+            response,
+            moved,
+            ..
         } => (response, moved),
     };
     announcement::announcement_word(Announcement::Response(response, moved), NO_MARKS)
