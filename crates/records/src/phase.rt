@@ -41,7 +41,7 @@ pub enum PhaseRead {
 }
 
 // The phase of a number. The retry phases are ranges of eight, a number for each task; another number is refused with 11.
-#[tactic(auto, using(crate::proofs::Phases::known, crate::proofs::Phases::unknown, crate::proofs::Phases::unused, crate::proofs::Phases::placed), unfolding(crate::specs::Phase::phase_of))]
+#[tactic(auto, unfolding(crate::specs::Phase::phase_of))]
 pub fn read_phase(number: u32) -> PhaseRead
     ensures { result ≡ phase_of number }
 {

@@ -204,7 +204,6 @@ fn after_apply(own: Task, helped: u8, made: bool) -> Next
 }
 
 // A helper goes on only with a cell that holds an operation.
-#[tactic(auto, using(crate::proofs::Defaults::no_operation))]
 fn after_linked(own: Task, helped: u8, linked: u64) -> Next
     ensures { result ≡ after_link_helped own.head helped linked (announcement_of own.announcement) }
 {
