@@ -1,4 +1,5 @@
 -- What a call on the first of nine records says at its exit, from what the call on their row says.
+use Rattle.std.specs.Prelude.{Result, Ok, Err, ⊤}
 use mathlib.Core.Path.{◌≡◌, refl, ap, sym, ◌∙◌}
 use mathlib.Core.Bool.{Bool, true, false}
 use mathlib.Core.List.{List, ◌++◌}
@@ -9,21 +10,16 @@ use lib.Dec.{leb}
 use lib.ListN.{length, take, drop, take-append-drop}
 use Rattle.refusal.specs.declared.Refusal.{Refusal}
 use Rattle.cells.proofs.Ceilings.{no_ceiling}
-use Rattle.table.specs.declared.Checked.{Checked}
-use Rattle.table.specs.declared.Checked.TheVariants as table
 use Rattle.table.specs.Check.{check_of}
 use Rattle.records.specs.declared.record.Task.{Task}
-use Rattle.stepping.specs.declared.answer.StepAnswer.{StepAnswer}
-use Rattle.stepping.specs.declared.answer.StepAnswer.TheVariants as step
-use Rattle.stepping.specs.declared.answer.StartAnswer.{StartAnswer}
-use Rattle.stepping.specs.declared.answer.StartAnswer.TheVariants as start
-use Rattle.stepping.specs.declared.answer.BeginAnswer.{BeginAnswer}
-use Rattle.stepping.specs.declared.answer.BeginAnswer.TheVariants as begin
 use Rattle.stepping.specs.Call.{with_row, StartOutcome, with_cells, admit_start_of, start_of, BeginOutcome, begin_of, StepOutcome, step_of}
 use Rattle.stepping.proofs.Refused.{refused_start, refused_begin_row, refused_step_row}
 use Rattle.bench_row.specs.First.{first_count, start_first, begin_first, step_first}
 use Rattle.drive.proofs.Calls.{BeginSaid, StepSaid}
 use Rattle.drive.proofs.Starts.{StartSaid}
+use Rattle.table.specs.declared.Shape.{Shape}
+use Rattle.stepping.specs.declared.answer.Progress.{Progress}
+use Rattle.stepping.specs.declared.answer.Progress.TheVariants as progress
 
 -- ---- How many records are lent
 
@@ -40,27 +36,27 @@ pub long_start : (file cs : List ℕ) (ys zs : List Task) → 8 < length ys → 
 unfolding start_of admit_start_of
 long_start file cs ys zs h g = at (check_of file)
   where
-    at : (checked : Checked) → (with_cells (length cs) (length ys) (with_row (length ys) checked)).answer ≡ (with_cells (length cs) (length zs) (with_row (length zs) checked)).answer
-    at (table.Accepted shape) = rw (no_ceiling (length ys) (λ _ l. omega arith), no_ceiling (length zs) (λ _ l. omega arith)) refl
-    at (table.Refused c) = refl
+    at : (checked : Result Shape Refusal) → (with_cells (length cs) (length ys) (with_row (length ys) checked)).answer ≡ (with_cells (length cs) (length zs) (with_row (length zs) checked)).answer
+    at (Ok shape) = rw (no_ceiling (length ys) (λ _ l. omega arith), no_ceiling (length zs) (λ _ l. omega arith)) refl
+    at (Err c) = refl
 
 -- ---- The calls
 
-pub start_first_lem : (file cs : List ℕ) (xs : List Task) (n m : ℕ) (cs' : List ℕ) (ys' : List Task) (a : StartAnswer) (row : List Task) (b : StartAnswer)
+pub start_first_lem : (file cs : List ℕ) (xs : List Task) (n m : ℕ) (cs' : List ℕ) (ys' : List Task) (a : Result ⊤ Refusal) (row : List Task) (b : Result ⊤ Refusal)
     → m ≡ first_count n → StartSaid file cs (take m xs) cs' ys' a → row ≡ ys' ++ drop m xs → b ≡ a
     → ◌≡◌ {A = StartOutcome} (record { cells = cs'; row = row; answer = b }) (start_first file cs xs n)
 unfolding start_first
 start_first_lem file cs xs n m cs' ys' a row b em e er eb =
     rw (er, eb, sym em) (ap (λ (s : StartOutcome). record { cells = s.cells; row = s.row ++ drop m xs; answer = s.answer }) e)
 
-pub begin_first_lem : (file : List ℕ) (xs : List Task) (n m t o : ℕ) (ys' : List Task) (a : BeginAnswer) (row : List Task) (b : BeginAnswer)
+pub begin_first_lem : (file : List ℕ) (xs : List Task) (n m t o : ℕ) (ys' : List Task) (a : Result ⊤ Refusal) (row : List Task) (b : Result ⊤ Refusal)
     → m ≡ first_count n → BeginSaid file (take m xs) t o ys' a → row ≡ ys' ++ drop m xs → b ≡ a
     → ◌≡◌ {A = BeginOutcome} (record { row = row; answer = b }) (begin_first file xs n t o)
 unfolding begin_first
 begin_first_lem file xs n m t o ys' a row b em e er eb =
     rw (er, eb, sym em) (ap (λ (s : BeginOutcome). record { row = s.row ++ drop m xs; answer = s.answer }) e)
 
-pub step_first_lem : (file cs : List ℕ) (xs : List Task) (n m t : ℕ) (cs' : List ℕ) (ys' : List Task) (a : StepAnswer) (row : List Task) (b : StepAnswer)
+pub step_first_lem : (file cs : List ℕ) (xs : List Task) (n m t : ℕ) (cs' : List ℕ) (ys' : List Task) (a : Result Progress Refusal) (row : List Task) (b : Result Progress Refusal)
     → m ≡ first_count n → StepSaid file cs (take m xs) t cs' ys' a → row ≡ ys' ++ drop m xs → b ≡ a
     → ◌≡◌ {A = StepOutcome} (record { cells = cs'; row = row; answer = b }) (step_first file cs xs n t)
 unfolding step_first
@@ -73,19 +69,19 @@ step_first_lem file cs xs n m t cs' ys' a row b em e er eb =
 first_kept : (xs ys' : List Task) (m : ℕ) → ys' ≡ take m xs → ys' ++ drop m xs ≡ xs
 first_kept xs ys' m e = ap (λ (ys : List Task). ys ++ drop m xs) e ∙ take-append-drop m xs
 
-pub refused_start_first : (file cs : List ℕ) (xs : List Task) (n : ℕ) (reason : Refusal) → (start_first file cs xs n).answer ≡ start.Refused reason
+pub refused_start_first : (file cs : List ℕ) (xs : List Task) (n : ℕ) (reason : Refusal) → (start_first file cs xs n).answer ≡ Err reason
     → ((start_first file cs xs n).row ≡ xs) × ((start_first file cs xs n).cells ≡ cs)
 unfolding start_first
 refused_start_first file cs xs n reason e =
     let kept = refused_start cs (take (first_count n) xs) file reason e in
     (first_kept xs (start_of file cs (take (first_count n) xs)).row (first_count n) (ap (λ (s : StartOutcome). s.row) kept), ap (λ (s : StartOutcome). s.cells) kept)
 
-pub refused_begin_first : (file : List ℕ) (xs : List Task) (n t o : ℕ) (reason : Refusal) → (begin_first file xs n t o).answer ≡ begin.Refused reason → (begin_first file xs n t o).row ≡ xs
+pub refused_begin_first : (file : List ℕ) (xs : List Task) (n t o : ℕ) (reason : Refusal) → (begin_first file xs n t o).answer ≡ Err reason → (begin_first file xs n t o).row ≡ xs
 unfolding begin_first
 refused_begin_first file xs n t o reason e =
     first_kept xs (begin_of file (take (first_count n) xs) t o).row (first_count n) (refused_begin_row file (take (first_count n) xs) t o reason e)
 
-pub refused_step_first : (file cs : List ℕ) (xs : List Task) (n t : ℕ) (reason : Refusal) → (step_first file cs xs n t).answer ≡ step.Refused reason
+pub refused_step_first : (file cs : List ℕ) (xs : List Task) (n t : ℕ) (reason : Refusal) → (step_first file cs xs n t).answer ≡ Err reason
     → ((step_first file cs xs n t).row ≡ xs) × ((step_first file cs xs n t).cells ≡ cs)
 unfolding step_first
 refused_step_first file cs xs n t reason e =

@@ -1,4 +1,5 @@
 -- The input is fed byte by byte.
+use Rattle.std.specs.Prelude.{Result}
 use mathlib.Core.Path.{◌≡◌, refl, ap, subst, sym, ◌∙◌}
 use mathlib.Core.Bool.{Bool, true}
 use mathlib.Core.List.{List, [], ◌∷◌, ◌++◌, append_assoc}
@@ -10,9 +11,10 @@ use lib.Seq.{take-suc}
 use Rattle.bench_session.specs.declared.session.Session.{Session}
 use Rattle.bench_session.specs.declared.session.Taken.{Taken}
 use Rattle.bench_session.specs.declared.session.Tested.{Tested}
-use Rattle.table.specs.declared.Checked.{Checked}
 use Rattle.bench_lines.specs.Line.{newline}
 use Rattle.bench_session.specs.Session.{Fed, Consumed, Follows, Yields, Reports, Continues, Reached, new_session, keep_byte, end_line, feed_byte, feed, and_then, joined, most_reads}
+use Rattle.table.specs.declared.Shape.{Shape}
+use Rattle.refusal.specs.declared.Refusal.{Refusal}
 
 -- Byte 10 ends a line; any other byte is kept.
 pub feed_newline : (file : List ℕ) (fed : Fed) (b : ℕ) → b ≡ newline → end_line file fed ≡ feed_byte file fed b
@@ -60,8 +62,8 @@ follows_as session fed other e = subst (λ (f : Fed). Follows f session) e
 pub yields_as : (r : Taken) (out other : Consumed) → out ≡ other → Yields r out → Yields r other
 yields_as r out other e = subst (λ (o : Consumed). Yields r o) e
 
-pub reports_as : (r : Tested) (out other : Checked) → out ≡ other → Reports r out → Reports r other
-reports_as r out other e = subst (λ (o : Checked). Reports r o) e
+pub reports_as : (r : Tested) (out other : Result Shape Refusal) → out ≡ other → Reports r out → Reports r other
+reports_as r out other e = subst (λ (o : Result Shape Refusal). Reports r o) e
 
 -- What a session has reached before the first read, and after one read more.
 pub reached_none : (file : List ℕ) (session : Session) → Follows new_session session → Reached file session true 0

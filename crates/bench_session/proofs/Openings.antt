@@ -1,4 +1,5 @@
 -- Runs as the bench opens them: what an accepted start leaves, and what the theorem about runs tells of the steps after it.
+use Rattle.std.specs.Prelude.{Ok, Err}
 use mathlib.Core.Path.{◌≡◌, refl, ap, ◌∙◌}
 use mathlib.Core.List.{List, [], ◌∷◌, ◌++◌}
 use Prim.Native.Nat.{ℕ, suc, ◌≤◌, ◌<◌}
@@ -12,7 +13,6 @@ use Rattle.machine.specs.Calls.{Call, Step, Running, Event}
 use Rattle.machine.specs.History.{Nothing, Pends, pending}
 use Rattle.machine.specs.Demand.{StepAccepted}
 use Rattle.records.specs.declared.record.Task.{Task}
-use Rattle.stepping.specs.declared.answer.StartAnswer.TheVariants as start
 use Rattle.stepping.specs.Call.{start_of}
 use Rattle.stepping.specs.Opening.{Opening}
 use Rattle.stepping.specs.Runs.{Store, serve_of, run_of, history_of}
@@ -30,7 +30,7 @@ pub record Sizes (file cells : List ℕ) (row : List Task) : Type 0 where
   pub cells_kept : length (start_of file cells row).cells ≡ length cells
   pub row_kept : length (start_of file cells row).row ≡ length row
 
-pub start_sizes : (file cells : List ℕ) (row : List Task) → Bytes file → (start_of file cells row).answer ≡ start.Started → Sizes file cells row
+pub start_sizes : (file cells : List ℕ) (row : List Task) → Bytes file → (start_of file cells row).answer ≡ (Ok tt) → Sizes file cells row
 start_sizes file cells row bytes e =
     let o = start_opens file cells row bytes e in
     let n = length row in

@@ -1,4 +1,5 @@
 -- A start on the bench: an accepted one opens a run on the first cells and records.
+use Rattle.std.specs.Prelude.{Result, Ok, Err, ⊤}
 use mathlib.Core.Path.{◌≡◌, refl, sym, subst, ◌∙◌}
 use mathlib.Core.Bool.{Bool, true, false}
 use mathlib.Core.List.{List, []}
@@ -10,8 +11,6 @@ use lib.Seq.{length_front, length-take-le}
 use Rattle.laws.proofs.Lists.{front_taken}
 use Rattle.table.specs.File.{Bytes, shape_of}
 use Rattle.records.specs.declared.record.Task.{Task}
-use Rattle.stepping.specs.declared.answer.StartAnswer.{StartAnswer}
-use Rattle.stepping.specs.declared.answer.StartAnswer.TheVariants as start
 use Rattle.stepping.specs.Call.{start_of}
 use Rattle.stepping.specs.Opening.{Opening, start_store}
 use Rattle.stepping.proofs.Theorem.{start_opens}
@@ -22,6 +21,7 @@ use Rattle.bench_session.specs.Run.{cell_count, start_held, start_bench, opened}
 use Rattle.bench_session.proofs.Openings.{start_sizes}
 use Rattle.stepping.proofs.Between.{store_same}
 use Rattle.bench_session.proofs.Situations.{Consistent, during, few_cells}
+use Rattle.refusal.specs.declared.Refusal.{Refusal}
 
 -- Fewer than nine records are lent as they are counted.
 counted : (k : ℕ) → first_count k ≤ 8 → first_count k ≡ k
@@ -42,10 +42,10 @@ module _ (file : List ℕ) (bytes : Bytes file) (bench : Bench) (c : Consistent 
   unfolding start_bench start_held start_first lent_cells lent_row
   consistent_start = at (start_of file lent_cells lent_row).answer refl
     where
-      at : (a : StartAnswer) → (start_of file lent_cells lent_row).answer ≡ a
+      at : (a : Result ⊤ Refusal) → (start_of file lent_cells lent_row).answer ≡ a
           → Consistent file (opened bench k (shape_of file) (start_held file bench.cells bench.row k) a).bench
-      at (start.Refused cause) e = c
-      at start.Started e =
+      at (Err cause) e = c
+      at (Ok tt) e =
           let s = start_sizes file lent_cells lent_row bytes e in
           let out = start_of file lent_cells lent_row in
           let cells_room : cell_count k ≤ length bench.cells = rw c.nine.cells (few_cells k) in

@@ -1,17 +1,11 @@
 -- docs/FORMATS.md, "The bench": how a command is served. The bench holds nine cells and nine records; a run of n tasks has
 -- the first n + 1 and the first n of them, and before an accepted start n is 0.
-use Rattle.std.specs.Prelude.{◌≡◌, Bool, true, false, not, ◌&&◌, cond, List, ◌++◌, ℕ, zero, suc, ◌+◌, eqb, ltb, take, drop, replicate}
+use Rattle.std.specs.Prelude.{◌≡◌, Bool, true, false, not, ◌&&◌, cond, List, ◌++◌, ℕ, zero, suc, ◌+◌, eqb, ltb, take, drop, replicate, Result, Ok, Err, ⊤}
 use Rattle.io.specs.Counts.{IsPrefixLen}
 use Rattle.refusal.specs.declared.Refusal.TheVariants as cause
 use Rattle.cells.specs.Ceiling.{greatest_ceiling}
 use Rattle.table.specs.declared.Shape.{Shape}
 use Rattle.table.specs.File.{shape_of}
-use Rattle.stepping.specs.declared.answer.StepAnswer.{StepAnswer}
-use Rattle.stepping.specs.declared.answer.StepAnswer.TheVariants as step
-use Rattle.stepping.specs.declared.answer.StartAnswer.{StartAnswer}
-use Rattle.stepping.specs.declared.answer.StartAnswer.TheVariants as start
-use Rattle.stepping.specs.declared.answer.BeginAnswer.{BeginAnswer}
-use Rattle.stepping.specs.declared.answer.BeginAnswer.TheVariants as begin
 use Rattle.records.specs.declared.record.Task.{Task}
 use Rattle.stepping.specs.Call as call
 use Rattle.stepping.specs.Call.{StartOutcome, BeginOutcome}
@@ -28,6 +22,9 @@ use Rattle.bench_session.specs.declared.run.Handled.{Handled}
 use Rattle.bench_session.specs.declared.run.Stepped.{Stepped}
 use Rattle.bench_session.specs.declared.run.Printed.{Printed}
 use Rattle.bench_lines.specs.Line.{reply_line, cells_line}
+use Rattle.refusal.specs.declared.Refusal.{Refusal}
+use Rattle.stepping.specs.declared.answer.Progress.{Progress}
+use Rattle.stepping.specs.declared.answer.Progress.TheVariants as progress
 
 -- The bench before the first line.
 abbrev pub unstarted_bench : Bench
@@ -44,12 +41,12 @@ lent bench = record { cells = take (cell_count bench.tasks) bench.cells; row = t
 -- ---- `n k`: an accepted start opens another run; a refused one leaves the present run as it is
 
 -- What a start leaves and answers, by its answer.
-abbrev pub opened : Bench → ℕ → Shape → StartOutcome → StartAnswer → Handled
-opened bench k shape out start.Started = record {
+abbrev pub opened : Bench → ℕ → Shape → StartOutcome → Result ⊤ Refusal → Handled
+opened bench k shape out (Ok tt) = record {
   bench = record { cells = out.cells; row = out.row; tasks = k };
   reply = reply.Started k shape.states shape.operations;
 }
-opened bench k shape out (start.Refused c) = record { bench = bench; reply = reply.Refused c }
+opened bench k shape out (Err c) = record { bench = bench; reply = reply.Refused c }
 
 -- The states and operations that it prints are those of the trailer.
 abbrev pub opened_by : List ℕ → Bench → ℕ → StartOutcome → Handled
@@ -70,9 +67,9 @@ start_bench file bench k = opened_by file bench k (start_held file bench.cells b
 -- ---- `b t o`: an accepted begin prints nothing
 
 -- A refused begin prints its number.
-abbrev pub begin_reply : BeginAnswer → Reply
-begin_reply begin.Begun = reply.Silent
-begin_reply (begin.Refused c) = reply.Refused c
+abbrev pub begin_reply : Result ⊤ Refusal → Reply
+begin_reply (Ok tt) = reply.Silent
+begin_reply (Err c) = reply.Refused c
 
 -- A begin changes the records alone.
 abbrev pub begin_after : Bench → BeginOutcome → Handled
@@ -86,10 +83,10 @@ begin_bench file bench t o = begin_after bench (begin_first file bench.row bench
 -- ---- `s t`: a step that answers running prints nothing
 
 -- A step that ends its operation prints the response and whether the state moved; a refused one prints its number.
-abbrev pub step_reply : ℕ → StepAnswer → Reply
-step_reply t step.Running = reply.Silent
-step_reply t (step.Ended r v k) = reply.Ended t r v
-step_reply t (step.Refused c) = reply.Refused c
+abbrev pub step_reply : ℕ → Result Progress Refusal → Reply
+step_reply t (Ok progress.Running) = reply.Silent
+step_reply t (Ok (progress.Ended r v k)) = reply.Ended t r v
+step_reply t (Err c) = reply.Refused c
 
 -- A step on the first of the cells and of the records; the others remain.
 abbrev pub held_after : ℕ → List ℕ → ℕ → call.StepOutcome → Stepped

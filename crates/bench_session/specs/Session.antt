@@ -1,7 +1,5 @@
 -- docs/FORMATS.md, "The bench": what it prints for a table file and an input, line by line, and the same byte by byte.
-use Rattle.std.specs.Prelude.{◌≡◌, Bool, true, false, cond, ◌⊎◌, List, [], ◌∷◌, ◌++◌, ℕ, ◌+◌, min, eqb, ltb, length, take}
-use Rattle.table.specs.declared.Checked.{Checked}
-use Rattle.table.specs.declared.Checked.TheVariants as checked
+use Rattle.std.specs.Prelude.{◌≡◌, Bool, true, false, cond, ◌⊎◌, List, [], ◌∷◌, ◌++◌, ℕ, ◌+◌, min, eqb, ltb, length, take, Result, Ok, Err}
 use Rattle.table.specs.Check.{check_of}
 use Rattle.bench_lines.specs.declared.reply.Reply.TheVariants as reply
 use Rattle.bench_session.specs.declared.run.Bench.{Bench}
@@ -11,6 +9,8 @@ use Rattle.bench_session.specs.declared.session.Tested.{Tested}
 use Rattle.bench_lines.specs.Command.{command_of}
 use Rattle.bench_lines.specs.Line.{newline, reply_line}
 use Rattle.bench_session.specs.Run.{Printing, unstarted_bench, serve_command, Spells}
+use Rattle.table.specs.declared.Shape.{Shape}
+use Rattle.refusal.specs.declared.Refusal.{Refusal}
 
 -- ---- The whole input, line by line
 
@@ -34,14 +34,14 @@ print_lines file bench [] = []
 print_lines file bench (line ∷ lines) = (serve_line file bench line).text ++ print_lines file (serve_line file bench line).bench lines
 
 -- The table is tested before the first line.
-abbrev pub is_served : Checked → Bool
-is_served (checked.Accepted shape) = true
-is_served (checked.Refused c) = false
+abbrev pub is_served : Result Shape Refusal → Bool
+is_served (Ok shape) = true
+is_served (Err c) = false
 
 -- Of a table that is not served the number is printed.
-abbrev pub table_text : Checked → List ℕ
-table_text (checked.Accepted shape) = []
-table_text (checked.Refused c) = reply_line (reply.Refused c)
+abbrev pub table_text : Result Shape Refusal → List ℕ
+table_text (Ok shape) = []
+table_text (Err c) = reply_line (reply.Refused c)
 
 -- All that is printed: for a table that is not served its line alone, whatever the input.
 unfoldable pub output_of : (file input : List ℕ) → List ℕ
@@ -122,7 +122,7 @@ abbrev pub Yields : Taken → Consumed → Type 0
 Yields r out = Follows out.fed r.session × Spells r.text out.text
 
 -- Whether a table is served, and what is printed for it.
-abbrev pub Reports : Tested → Checked → Type 0
+abbrev pub Reports : Tested → Result Shape Refusal → Type 0
 Reports r out = (r.served ≡ is_served out) × Spells r.text (table_text out)
 
 -- ---- The reads of the input

@@ -106,11 +106,11 @@ fn start(file: &[u8], bench: Bench, tasks: u16) -> Handled
     let opened = start_held(file, cells, row, tasks as usize);
     let answer = opened.answer;
     match answer {
-        StartAnswer::Refused(cause) => Handled {
+        Err(cause) => Handled {
             bench,
             reply: Reply::Refused(cause),
         },
-        StartAnswer::Started => {
+        Ok(()) => {
             let shape = table::read_shape(file);
             let image = opened.cells;
             let idle = opened.row;
@@ -135,8 +135,8 @@ fn begin_reply(answer: BeginAnswer) -> Reply
     ensures { result ≡ begin_reply answer }
 {
     match answer {
-        BeginAnswer::Begun => Reply::Silent,
-        BeginAnswer::Refused(cause) => Reply::Refused(cause),
+        Ok(()) => Reply::Silent,
+        Err(cause) => Reply::Refused(cause),
     }
 }
 
@@ -185,7 +185,7 @@ fn step_reply(task: u16, answer: StepAnswer) -> Reply
     ensures { result ≡ step_reply task answer }
 {
     match answer {
-        StepAnswer::Running => Reply::Silent,
+        Ok(Progress::Running) => Reply::Silent,
         StepAnswer::Ended {
             response,
             moved,
@@ -195,7 +195,7 @@ fn step_reply(task: u16, answer: StepAnswer) -> Reply
             response,
             moved,
         },
-        StepAnswer::Refused(cause) => Reply::Refused(cause),
+        Err(cause) => Reply::Refused(cause),
     }
 }
 

@@ -45,11 +45,11 @@ pub(crate) fn test_table(file: &[u8]) -> Tested
 {
     let checked = table::check(file);
     match checked {
-        Checked::Accepted(_) => Tested {
+        Ok(_) => Tested {
             served: true,
             text: reply::reply_line(Reply::Silent),
         },
-        Checked::Refused(cause) => Tested {
+        Err(cause) => Tested {
             served: false,
             text: reply::reply_line(Reply::Refused(cause)),
         },

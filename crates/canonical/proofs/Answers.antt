@@ -1,4 +1,5 @@
 -- What the call that writes an object's file answers and leaves, and what that says of two calls.
+use Rattle.std.specs.Prelude.{Result, Ok, Err}
 use mathlib.Core.Path.{◌≡◌, refl, sym, ap, subst, ◌∙◌}
 use mathlib.Core.Logic.{inl, inr}
 use mathlib.Core.List.{List}
@@ -11,16 +12,12 @@ use lib.Seq.{sets}
 use Rattle.laws.proofs.Lists.{written_over}
 use Rattle.refusal.specs.declared.Refusal.{Refusal}
 use Rattle.refusal.specs.declared.Refusal.TheVariants.{Room}
-use Rattle.refusal.specs.declared.Written.{Written}
-use Rattle.refusal.specs.declared.Written.TheVariants.{Length}
 use Rattle.refusal.specs.Number.{Said, refused_by}
 use Rattle.refusal.specs.Written.{Writing, written_said, not_written, written_into}
 use Rattle.refusal.specs.Statement.{Writes}
 use Rattle.refusal.proofs.Numbers.{numbers_apart}
 use Rattle.refusal.proofs.Writes.{not_written_lem, fully_written, writes_into}
 use Rattle.table.specs.declared.Shape.{Shape}
-use Rattle.table.specs.declared.Checked.{Checked}
-use Rattle.table.specs.declared.Checked.TheVariants.{Accepted, Refused}
 use Rattle.table.specs.File.{Bytes, shape_of}
 use Rattle.table.specs.Layout.{file_length}
 use Rattle.table.specs.Check.{check_of, check_said}
@@ -39,7 +36,7 @@ use Rattle.canonical.proofs.OneFile.{same_files, settled}
 -- ---- Case by case
 
 -- The file of an accepted table, by the shape that check found.
-module _ (file : List ℕ) (shape : Shape) (e : check_of file ≡ Accepted shape) where
+module _ (file : List ℕ) (shape : Shape) (e : check_of file ≡ Ok shape) where
   shape_found : shape ≡ shape_of file
   shape_found = (accepted_fitting file shape e).shape_is
 
@@ -58,29 +55,29 @@ module _ (file : List ℕ) (shape : Shape) (e : check_of file ≡ Accepted shape
       omega (arith, mul-le-mul_right shape.operations few, fits.few_operations)
 
 module _ (file room : List ℕ) where
-  checked_written : (checked : Checked) → check_of file ≡ checked → canonical_written file room ≡ when_checked file room checked
+  checked_written : (checked : Result Shape Refusal) → check_of file ≡ checked → canonical_written file room ≡ when_checked file room checked
   unfolding canonical_written
   checked_written checked e = ap (when_checked file room) e
 
-  pub refused_written : (cause : Refusal) → check_of file ≡ Refused cause → canonical_written file room ≡ not_written cause room
-  refused_written cause e = checked_written (Refused cause) e
+  pub refused_written : (cause : Refusal) → check_of file ≡ Err cause → canonical_written file room ≡ not_written cause room
+  refused_written cause e = checked_written (Err cause) e
 
-  module _ (shape : Shape) (e : check_of file ≡ Accepted shape) where
+  module _ (shape : Shape) (e : check_of file ≡ Ok shape) where
     accepted_written : canonical_written file room ≡ written_into (canonical_of file) room
-    accepted_written = checked_written (Accepted shape) e
+    accepted_written = checked_written (Ok shape) e
 
     -- A room that is too short, and one that isn't.
     pub written_no_room : length room < file_length (renumbered_shape shape (order_of file shape)) → canonical_written file room ≡ not_written Room room
     written_no_room short = accepted_written ∙ not_written_lem (canonical_of file) room (omega (arith, short, file_long file shape e))
 
     pub written_fits : file_length (renumbered_shape shape (order_of file shape)) ≤ length room
-        → canonical_written file room ≡ record { answer = Length (file_length (renumbered_shape shape (order_of file shape))); room = sets room 0 (renumbered file shape (order_of file shape)) }
+        → canonical_written file room ≡ record { answer = Ok (file_length (renumbered_shape shape (order_of file shape))); room = sets room 0 (renumbered file shape (order_of file shape)) }
     written_fits fits =
         let enough : length (canonical_of file) ≤ length room = omega (arith, fits, file_long file shape e) in
         accepted_written ∙ fully_written (canonical_of file) room enough
-        ∙ pair (ap Length (file_long file shape e)) (sym (written_over (canonical_of file) room enough) ∙ ap (sets room 0) (file_is file shape e))
+        ∙ pair (ap Ok (file_long file shape e)) (sym (written_over (canonical_of file) room enough) ∙ ap (sets room 0) (file_is file shape e))
       where
-        pair : {a b : Written} {x y : List ℕ} → a ≡ b → x ≡ y → ◌≡◌ {A = Writing} (record { answer = a; room = x }) (record { answer = b; room = y })
+        pair : {a b : (Result ℕ Refusal)} {x y : List ℕ} → a ≡ b → x ≡ y → ◌≡◌ {A = Writing} (record { answer = a; room = x }) (record { answer = b; room = y })
         pair p q = rw (p, q)
 
 -- ---- What is answered
@@ -91,7 +88,7 @@ module _ (file room : List ℕ) where
   not_refused whole number some f (yes short) = sym (ap (λ (s : Said). s.number) (sym (whole.no_room.1 short) ∙ f))
   not_refused whole number some f (no n) = absurd (numbers_apart (sym f ∙ (whole.length_written _).1 (omega arith, refl)) (λ z. omega arith))
 
-  served_answered : (shape : Shape) → check_of file ≡ Accepted shape → CanonicalAnswered file room
+  served_answered : (shape : Shape) → check_of file ≡ Ok shape → CanonicalAnswered file room
   served_answered shape e =
       let whole = subst (Writes (canonical_of file) room) (sym (accepted_written file room shape e)) (writes_into (canonical_of file) room) in
       let room_short : (number : ℕ) → 1 ≤ number → written_said (canonical_written file room).answer ≡ refused_by number → number ≡ 16 = λ number some f. not_refused whole number some f (dec_lt (length room) (length (canonical_of file))) in
@@ -104,7 +101,7 @@ module _ (file room : List ℕ) where
         only = λ number some f. inr (room_short number some f);
       }
 
-  refused_answered : (cause : Refusal) → check_of file ≡ Refused cause → CanonicalAnswered file room
+  refused_answered : (cause : Refusal) → check_of file ≡ Err cause → CanonicalAnswered file room
   refused_answered cause e =
       let out = refused_written file room cause e in
       let both : written_said (canonical_written file room).answer ≡ check_said (check_of file) = ap (λ (w : Writing). written_said w.answer) out ∙ sym (ap check_said e) in
@@ -119,9 +116,9 @@ module _ (file room : List ℕ) where
   pub canonical_answered : CanonicalAnswered file room
   canonical_answered = by (check_of file) refl
     where
-      by : (checked : Checked) → check_of file ≡ checked → CanonicalAnswered file room
-      by (Accepted shape) e = served_answered shape e
-      by (Refused cause) e = refused_answered cause e
+      by : (checked : Result Shape Refusal) → check_of file ≡ checked → CanonicalAnswered file room
+      by (Ok shape) e = served_answered shape e
+      by (Err cause) e = refused_answered cause e
 
 -- ---- What is written
 
@@ -130,14 +127,14 @@ module _ (file room written : List ℕ) (bytes : Bytes file) (wrote : Wrote file
   both_known : Served file × (written ≡ canonical_of file)
   both_known = by (check_of file) refl
     where
-      by : (checked : Checked) → check_of file ≡ checked → Served file × (written ≡ canonical_of file)
-      by (Refused cause) e =
+      by : (checked : Result Shape Refusal) → check_of file ≡ checked → Served file × (written ≡ canonical_of file)
+      by (Err cause) e =
           let none : ◌≡◌ {A = ℕ} 0 1 = ap (λ (s : Said). length s.values) (sym (ap (λ (w : Writing). written_said w.answer) (refused_written file room cause e)) ∙ wrote.0) in
           absurd (omega arith)
-      by (Accepted shape) e =
+      by (Ok shape) e =
           let whole = (canonical_answered file room).writes shape e in
           let fits = (whole.length_written (length written)).0 wrote.0 in
-          ((bytes, e ∙ ap Accepted (shape_found file shape e)), sym wrote.1 ∙ ap (λ (k : ℕ). take k (canonical_written file room).room) fits.1 ∙ whole.front fits.0)
+          ((bytes, e ∙ ap Ok (shape_found file shape e)), sym wrote.1 ∙ ap (λ (k : ℕ). take k (canonical_written file room).room) fits.1 ∙ whole.front fits.0)
 
   served : Served file
   served = both_known.0

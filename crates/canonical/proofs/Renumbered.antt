@@ -1,4 +1,5 @@
 -- The file of an object: it is accepted, its entries are those of the table in new numbers, and it is the same object.
+use Rattle.std.specs.Prelude.{Ok}
 use mathlib.Core.Path.{◌≡◌, refl, sym, ap, subst, ◌∙◌}
 use mathlib.Core.List.{List}
 use Prim.Native.Nat.{ℕ, ◌+◌, ◌*◌, ◌<◌}
@@ -6,7 +7,6 @@ use native.Mathlib.Omega.{arith}
 use lib.ListN.{length, get_or}
 use Rattle.table.specs.declared.Shape.{Shape}
 use Rattle.table.specs.declared.Entry.{Entry}
-use Rattle.table.specs.declared.Checked.TheVariants.{Accepted}
 use Rattle.table.specs.File.{Bytes, shape_of}
 use Rattle.table.specs.Entries.{entry_of}
 use Rattle.table.specs.Check.{check_of}
@@ -75,14 +75,14 @@ module _ (file : List ℕ) (served : Served file) where
   written_bytes : Bytes written
   written_bytes = subst Bytes (sym written_is) back.bytes
 
-  written_accepted : check_of written ≡ Accepted (renumbered_shape shape order)
+  written_accepted : check_of written ≡ Ok (renumbered_shape shape order)
   written_accepted = ap check_of written_is ∙ back.accepted
 
   pub written_shape : shape_of written ≡ renumbered_shape shape order
   written_shape = sym (accepted_fitting written (renumbered_shape shape order) written_accepted).shape_is
 
   pub written_served : Served written
-  written_served = (written_bytes, written_accepted ∙ ap Accepted (sym written_shape))
+  written_served = (written_bytes, written_accepted ∙ ap Ok (sym written_shape))
 
   written_closed : Closed written (shape_of written)
   written_closed = accepted_closed written (shape_of written) written_served.1

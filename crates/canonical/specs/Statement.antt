@@ -1,10 +1,9 @@
 -- What is proved of the call that writes an object's file.
-use Rattle.std.specs.Prelude.{◌≡◌, ◌↔◌, ◌⊎◌, List, [], ◌∷◌, ℕ, ◌+◌, ◌*◌, ◌<◌, ◌≤◌, length, get_or, take}
+use Rattle.std.specs.Prelude.{◌≡◌, ◌↔◌, ◌⊎◌, List, [], ◌∷◌, ℕ, ◌+◌, ◌*◌, ◌<◌, ◌≤◌, length, get_or, take, Ok}
 use Rattle.refusal.specs.Number.{accepted, refused_by}
 use Rattle.refusal.specs.Written.{written_said}
 use Rattle.refusal.specs.Statement.{Writes}
 use Rattle.table.specs.declared.Shape.{Shape}
-use Rattle.table.specs.declared.Checked.TheVariants.{Accepted}
 use Rattle.table.specs.File.{Bytes, shape_of}
 use Rattle.table.specs.Layout.{layout_of}
 use Rattle.table.specs.Check.{check_of, check_said}
@@ -15,7 +14,7 @@ use Rattle.canonical.specs.Canonical.{canonical_of, canonical_written}
 
 -- A file of bytes that check accepts.
 abbrev pub Served : List ℕ → Type 0
-Served file = Bytes file × (check_of file ≡ Accepted (shape_of file))
+Served file = Bytes file × (check_of file ≡ Ok (shape_of file))
 
 -- ---- What the file is
 
@@ -25,7 +24,7 @@ Served file = Bytes file × (check_of file ≡ Accepted (shape_of file))
 pub record Renumbered (file order written : List ℕ) : Type 0 where
   pub bytes : Bytes written
   pub long : length written ≡ 2 * (length order * operations_of file) + 16
-  pub accepts : check_of written ≡ Accepted (record { offset = 0; states = length order; operations = operations_of file; start = 0 })
+  pub accepts : check_of written ≡ Ok (record { offset = 0; states = length order; operations = operations_of file; start = 0 })
   pub next : (number operation : ℕ) → number < length order → operation < operations_of file
       → (next_in written number operation < length order) × (get_or order (next_in written number operation) 0 ≡ next_in file (get_or order number 0) operation)
   pub response : (number operation : ℕ) → number < length order → operation < operations_of file
@@ -57,9 +56,9 @@ pub record CanonicalAnswered (file room : List ℕ) : Type 0 where
   pub refused : (number : ℕ) → 1 ≤ number → number ≤ 4 → (written_said (canonical_written file room).answer ≡ refused_by number) ↔ (check_said (check_of file) ≡ refused_by number)
   pub unchanged : (number : ℕ) → 1 ≤ number → check_said (check_of file) ≡ refused_by number → (canonical_written file room).room ≡ room
   -- 4 exactly if 1 to 3 don't hold and some entry is out of range, whether its state can be reached or not.
-  pub entries : (written_said (canonical_written file room).answer ≡ refused_by 4) ↔ ((shape : Shape) × (layout_of file ≡ Accepted shape) × OutOfRange file shape)
+  pub entries : (written_said (canonical_written file room).answer ≡ refused_by 4) ↔ ((shape : Shape) × (layout_of file ≡ Ok shape) × OutOfRange file shape)
   -- An accepted table: its file is written into the room, or refused with 16.
-  pub writes : (shape : Shape) → check_of file ≡ Accepted shape → Writes (canonical_of file) room (canonical_written file room)
+  pub writes : (shape : Shape) → check_of file ≡ Ok shape → Writes (canonical_of file) room (canonical_written file room)
   -- No other number is answered.
   pub only : (number : ℕ) → 1 ≤ number → written_said (canonical_written file room).answer ≡ refused_by number → (number ≤ 4) ⊎ (number ≡ 16)
 

@@ -2,16 +2,15 @@
 // text (docs/FORMATS.md, "One file for one object").
 #![tactic(auto)]
 
-ghost use Rattle.std.specs.Prelude.{◌≡◌, ◌<◌, ◌≤◌, length};
+ghost use Rattle.std.specs.Prelude.{◌≡◌, ◌<◌, ◌≤◌, length, Ok};
 ghost use Rattle.std.proofs.lemmas.List.Edits.{sets};
-ghost use Rattle.table.specs.declared.Checked.TheVariants.{Accepted};
 ghost use Rattle.table.specs.Check.{check_of};
 ghost use Rattle.table_writer.specs.Written.{state_bytes, entries_of};
 ghost use Rattle.reach.specs.Order.{order_of};
 ghost use Rattle.canonical.specs.Canonical.{renumbered_entry, renumbered_shape, renumbered, canonical_written, Numbered};
 
-use refusal::{Refusal, Written};
-use table::{Checked, Entry, Shape};
+use refusal::Refusal;
+use table::{Entry, Shape};
 
 // The bytes of an entry.
 const ENTRY_BYTES: u32 = 2;
@@ -101,8 +100,8 @@ fn write_file(
 
 // Writes the file of an accepted table at the room's start, and answers its length in bytes.
 #[tactic(auto, using(reach::proofs::Words::into_both, crate::proofs::Answers::length_small, crate::proofs::Answers::written_no_room, crate::proofs::Answers::written_fits))]
-fn write_accepted(file: &[u8], shape: Shape, room: &mut [u8]) -> Written
-    requires { check_of file.now ≡ Accepted shape }
+fn write_accepted(file: &[u8], shape: Shape, room: &mut [u8]) -> Result<u32, Refusal>
+    requires { check_of file.now ≡ Ok shape }
     ensures { (room.new ≡ (canonical_written file.now room.old).room) × (result ≡ (canonical_written file.now room.old).answer) }
 {
     let mut order = [0; 256];
@@ -116,20 +115,17 @@ fn write_accepted(file: &[u8], shape: Shape, room: &mut [u8]) -> Written
     };
     let length = table::file_length(written);
     if room.len() < length {
-        return Written::Refused(Refusal::Room);
+        return Err(Refusal::Room);
     }
     write_file(room, file, shape, &order, &number, written);
-    Written::Length(length as u32)
+    Ok(length as u32)
 }
 
 // Writes an object's file at the room's start, and answers its length in bytes.
 #[tactic(auto, using(crate::proofs::Answers::refused_written))]
-pub fn write_canonical(file: &[u8], room: &mut [u8]) -> Written
+pub fn write_canonical(file: &[u8], room: &mut [u8]) -> Result<u32, Refusal>
     ensures { (room.new ≡ (canonical_written file.now room.old).room) × (result ≡ (canonical_written file.now room.old).answer) }
 {
-    let checked = table::check(file);
-    match checked {
-        Checked::Refused(cause) => Written::Refused(cause),
-        Checked::Accepted(shape) => write_accepted(file, shape, room),
-    }
+    let shape = table::check(file)?;
+    write_accepted(file, shape, room)
 }

@@ -1,5 +1,6 @@
 -- The ceiling is 1,000 × n × n × n for 1 to 8 tasks, as the contract lists it, and no other number of tasks has one: laws, and a
 -- proof of each statement about ceilings in specs/Statement.antt but `AsListed`, which is in Listed.antt.
+use Rattle.std.specs.Prelude.{Ok, Err}
 use mathlib.Core.Path.{◌≡◌, refl, sym, ap, ◌∙◌}
 use mathlib.Core.Bool.{Bool, true, false, ◌&&◌, cond}
 use mathlib.Core.List.{[], ◌∷◌}
@@ -18,7 +19,6 @@ use Rattle.refusal.proofs.Numbers.{numbers_apart, values_same}
 use Rattle.cells.specs.Ceiling.{ceiling_of, ceiling_said, listed_ceilings}
 use Rattle.cells.specs.Statement.{CeilingIs, Product, RefusedOutside, Grows, Greatest}
 use Rattle.cells.proofs.Served.{passes, in_range}
-use Rattle.cells.specs.declared.ceiling.Ceiling.TheVariants.{Steps, Refused}
 
 -- ---- The product
 
@@ -27,15 +27,15 @@ pub products : (n : ℕ) → n ≤ 8 → (n * n ≤ 64) × (n * n * n ≤ 512)
 products n h = let square = mul-le-mul h h in (square, mul-le-mul square h)
 
 -- For 1 to 8 tasks the ceiling is the product.
-pub ceiling_cubed : (n : ℕ) → 1 ≤ n → n ≤ 8 → ceiling_of n ≡ Steps (1000 * (n * n * n))
+pub ceiling_cubed : (n : ℕ) → 1 ≤ n → n ≤ 8 → ceiling_of n ≡ Ok (1000 * (n * n * n))
 unfolding ceiling_of
 ceiling_cubed n h l = rw (passes n h l)
 
 -- Any other number of tasks has no ceiling.
-pub no_ceiling : (n : ℕ) → (1 ≤ n → n ≤ 8 → ⊥) → ceiling_of n ≡ Refused Row
+pub no_ceiling : (n : ℕ) → (1 ≤ n → n ≤ 8 → ⊥) → ceiling_of n ≡ Err Row
 unfolding ceiling_of
 no_ceiling n out =
-    choice_by (λ c. c ≡ Refused Row) _ (λ e. let range = in_range n e in absurd (out range.0 range.1)) (λ _. refl)
+    choice_by (λ c. c ≡ Err Row) _ (λ e. let range = in_range n e in absurd (out range.0 range.1)) (λ _. refl)
 
 -- The number that it is told is 5.
 pub ceiling_refused : (n : ℕ) → (1 ≤ n → n ≤ 8 → ⊥) → (ceiling_said (ceiling_of n)).number ≡ 5
@@ -57,7 +57,7 @@ pub ceiling_told : (n c : ℕ) → CeilingIs n c → InRange n c
 unfolding ceiling_of
 ceiling_told n c = by (leb 1 n && leb n 8) refl
   where
-    by : (b : Bool) → leb 1 n && leb n 8 ≡ b → ceiling_said (cond b (Steps (1000 * (n * n * n))) (Refused Row)) ≡ accepted (c ∷ []) → InRange n c
+    by : (b : Bool) → leb 1 n && leb n 8 ≡ b → ceiling_said (cond b (Ok (1000 * (n * n * n))) (Err Row)) ≡ accepted (c ∷ []) → InRange n c
     by true e told = let range = in_range n e in (range.0, range.1, values_same told)
     by false e told = absurd (numbers_apart told (λ z. omega arith))
 

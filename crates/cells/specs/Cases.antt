@@ -1,18 +1,18 @@
 -- docs/FORMATS.md, "Cases": the cases about cells and ceiling. The table of all cases, which needs later definitions, is that of the
 -- crate stepping.
-use Rattle.std.specs.Prelude.{true, false, List, [], ◌∷◌, ℕ, length, get_or}
+use Rattle.std.specs.Prelude.{true, false, List, [], ◌∷◌, ℕ, length, get_or, Result}
 use Rattle.laws.specs.Bit.{bit}
 use Rattle.laws.specs.Case.{Case, case}
 use Rattle.cells.specs.Ceiling.{ceiling_of, ceiling_said}
-use Rattle.cells.specs.declared.ceiling.Ceiling.{Ceiling}
 use Rattle.cells.specs.Form.{head_in_form, announcement_in_form}
 use Rattle.cells.specs.Image.{image}
 use Rattle.cells.specs.Layout.{head_word, announcement_word}
 use Rattle.cells.specs.declared.head.Head.TheVariants.{Held}
 use Rattle.cells.specs.declared.announcement.Announcement.TheVariants.{Response}
+use Rattle.refusal.specs.declared.Refusal.{Refusal}
 
 -- The ceiling that an answer says, 0 if it says none.
-abbrev steps : Ceiling → ℕ
+abbrev steps : Result ℕ Refusal → ℕ
 steps answer = get_or (ceiling_said answer).values 0 0
 
 -- 1 if a head is in form with two states, 0 if it is not; an announcement with three operations and one task.

@@ -1,18 +1,17 @@
 -- docs/RUNS.md, "Runs, steps and records": the ceiling of own steps, 1,000 × n × n × n.
-use Rattle.std.specs.Prelude.{◌&&◌, cond, List, [], ◌∷◌, ℕ, ◌*◌, ◌-◌, leb, get_or}
+use Rattle.std.specs.Prelude.{◌&&◌, cond, List, [], ◌∷◌, ℕ, ◌*◌, ◌-◌, leb, get_or, Result, Ok, Err}
 use Rattle.refusal.specs.Number.{Said, accepted, refused_by, refused}
 use Rattle.refusal.specs.declared.Refusal.TheVariants.{Row}
-use Rattle.cells.specs.declared.ceiling.Ceiling.{Ceiling}
-use Rattle.cells.specs.declared.ceiling.Ceiling.TheVariants.{Steps, Refused}
+use Rattle.refusal.specs.declared.Refusal.{Refusal}
 
 -- The product for n tasks, if there are 1 to 8; else the row is refused.
-unfoldable pub ceiling_of : ℕ → Ceiling
-ceiling_of n = cond (leb 1 n && leb n 8) (Steps (1000 * (n * n * n))) (Refused Row)
+unfoldable pub ceiling_of : ℕ → Result ℕ Refusal
+ceiling_of n = cond (leb 1 n && leb n 8) (Ok (1000 * (n * n * n))) (Err Row)
 
 -- What an answer says: the ceiling, or the number of the cause.
-abbrev pub ceiling_said : Ceiling → Said
-ceiling_said (Steps c) = accepted (c ∷ [])
-ceiling_said (Refused cause) = refused cause
+abbrev pub ceiling_said : Result ℕ Refusal → Said
+ceiling_said (Ok c) = accepted (c ∷ [])
+ceiling_said (Err cause) = refused cause
 
 -- The ceiling for 8 tasks, which is the greatest.
 abbrev pub greatest_ceiling : ℕ

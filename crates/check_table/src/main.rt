@@ -2,7 +2,7 @@
 // prints `ok`, its states, operations and start state, and for each operation 1 if it is changing and 0 if it is reading.
 #![tactic(auto)]
 
-use table::{Checked, Shape};
+use table::Shape;
 
 // A write that fails is passed over.
 fn print_bytes<P: Print>(rt: &P, bytes: &[u8]) {
@@ -34,11 +34,11 @@ fn print_changing<P: Print>(rt: &P, file: &[u8], shape: Shape) {
 fn report<P: Print>(rt: &P, file: &[u8]) {
     let checked = table::check(file);
     match checked {
-        Checked::Refused(cause) => {
+        Err(cause) => {
             print_bytes(rt, b"x");
             print_field(rt, refusal::number(cause) as u16);
         }
-        Checked::Accepted(shape) => {
+        Ok(shape) => {
             print_bytes(rt, b"ok");
             print_field(rt, shape.states);
             print_field(rt, shape.operations);

@@ -1,4 +1,5 @@
 -- A run over a table that the desk has written counts rings.
+use Rattle.std.specs.Prelude.{Ok, Err}
 use mathlib.Core.Path.{◌≡◌, sym, ap, subst, ◌∙◌}
 use mathlib.Core.Bool.{Bool, not}
 use mathlib.Core.List.{List, [], ◌∷◌}
@@ -9,7 +10,6 @@ use lib.ListN.{length, take}
 use lib.Seq.{take-length}
 use Rattle.laws.specs.Places.{At, here, later}
 use Rattle.table.specs.declared.Shape.{Shape}
-use Rattle.table.specs.declared.Checked.TheVariants as table
 use Rattle.table.specs.File.{Bytes, shape_of}
 use Rattle.table.specs.Entries.{moves, entry_of}
 use Rattle.table.specs.Check.{check_of}
@@ -21,7 +21,6 @@ use Rattle.machine.specs.History.{reached, replayed}
 use Rattle.machine.proofs.Book.Replay.{replayed_at}
 use Rattle.machine.proofs.Whole.Books.{state_replayed, order_below}
 use Rattle.records.specs.declared.record.Task.{Task}
-use Rattle.stepping.specs.declared.answer.StartAnswer.TheVariants.{Started}
 use Rattle.stepping.specs.Call.{start_of}
 use Rattle.stepping.specs.Runs.{Store}
 use Rattle.stepping.specs.Opening.{Opening, object_in, start_store}
@@ -43,7 +42,7 @@ module _ (rings : ℕ) (some : 1 ≤ rings) (few : rings ≤ 255) {file : List �
   facts : DriveTable rings
   facts = drive_tables rings some few
 
-  accepted : check_of file ≡ table.Accepted (desk_shape rings)
+  accepted : check_of file ≡ Ok (desk_shape rings)
   accepted = ap check_of written ∙ facts.accepts
 
   module _ {n : ℕ} {s : Store} (o : Opening file n 0 s) where
@@ -112,7 +111,7 @@ module _ (rings : ℕ) (some : 1 ≤ rings) (few : rings ≤ 255) {file : List �
 
   -- Start accepts the table, and opens a run with no ring built.
   module _ (cells : List ℕ) (row : List Task) (records : 1 ≤ length row) (few_records : length row ≤ 8) (one_more : length cells ≡ length row + 1) where
-    started : (start_of file cells row).answer ≡ Started
+    started : (start_of file cells row).answer ≡ (Ok tt)
     started = (start_accepted file cells row).1 ((desk_shape rings, accepted), records, few_records, one_more)
 
     opened : Opening file (length row) 0 (start_store file cells row)

@@ -1,6 +1,6 @@
 -- What is proved of a run over a table that the ring desk has written: start accepts it, the demands hold, the state is the number of
 -- rings built, and each response the number before.
-use Rattle.std.specs.Prelude.{◌≡◌, Bool, not, List, [], ◌∷◌, ℕ, ◌+◌, ◌≤◌, eqb, length, take}
+use Rattle.std.specs.Prelude.{◌≡◌, Bool, not, List, [], ◌∷◌, ℕ, ◌+◌, ◌≤◌, eqb, length, take, Ok}
 use Rattle.laws.specs.Places.{At}
 use Rattle.refusal.specs.Number.{accepted}
 use Rattle.refusal.specs.Written.{written_said}
@@ -8,7 +8,6 @@ use Rattle.machine.specs.Calls.{Call}
 use Rattle.machine.specs.Book.{Operation}
 use Rattle.machine.specs.History.{Begins, Ends, replayed}
 use Rattle.records.specs.declared.record.Task.{Task}
-use Rattle.stepping.specs.declared.answer.StartAnswer.TheVariants.{Started}
 use Rattle.stepping.specs.Call.{start_of}
 use Rattle.stepping.specs.Runs.{Store}
 use Rattle.stepping.specs.Opening.{Opening, object_in, shown, start_store}
@@ -47,5 +46,5 @@ DriveRuns rings room bytes =
     written_said (table_of rings room).answer ≡ accepted (bytes ∷ [])
     → let file = take bytes (table_of rings room).room in
     (cells : List ℕ) (row : List Task) → 1 ≤ length row → length row ≤ 8 → length cells ≡ length row + 1
-    → ((start_of file cells row).answer ≡ Started)
+    → ((start_of file cells row).answer ≡ (Ok tt))
     × ((o : Opening file (length row) 0 (start_store file cells row)) × Demands o × ((d : Demands o) → CountsRings (ring_count rings) o d))

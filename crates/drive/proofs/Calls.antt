@@ -1,17 +1,17 @@
 -- What a call on a row says at its exit, from what the call for one task says.
+use Rattle.std.specs.Prelude.{Result, ⊤}
 use mathlib.Core.Path.{◌≡◌, ap, ◌∙◌}
 use mathlib.Core.List.{List}
 use Prim.Native.Nat.{ℕ, ◌≤◌}
 use lib.ListN.{length, set, get_or-eq_default}
 use lib.Seq.{set_out}
 use Rattle.records.specs.declared.record.Task.{Task}
-use Rattle.stepping.specs.declared.answer.StepAnswer.{StepAnswer}
-use Rattle.stepping.specs.declared.answer.BeginAnswer.{BeginAnswer}
-use Rattle.stepping.specs.declared.answer.Begin.{Begin}
-use Rattle.stepping.specs.declared.answer.Step.{Step}
+use Rattle.stepping.specs.Call.{Begin}
 use Rattle.records.specs.Record.{idle_task}
 use Rattle.stepping.specs.Call.{task_at, begin_task, BeginOutcome, begin_of, step_task, StepOutcome, step_of}
 use Rattle.stepping.specs.Step.{TaskOutcome}
+use Rattle.refusal.specs.declared.Refusal.{Refusal}
+use Rattle.stepping.specs.declared.answer.Progress.{Progress}
 
 -- A task past the row's end has an idle record.
 past_idle : (ys : List Task) (t : ℕ) → length ys ≤ t → task_at ys t ≡ idle_task 0
@@ -20,65 +20,47 @@ past_idle ys t past = get_or-eq_default ys (idle_task 0) past
 -- ---- Begin
 
 -- The row and the answer at the exit of a begin.
-abbrev pub BeginSaid : List ℕ → List Task → (t o : ℕ) → List Task → BeginAnswer → Type 0
+abbrev pub BeginSaid : List ℕ → List Task → (t o : ℕ) → List Task → Result ⊤ Refusal → Type 0
 BeginSaid file ys t o ys' a = ◌≡◌ {A = BeginOutcome} (record { row = ys'; answer = a }) (begin_of file ys t o)
 
 -- The record and the answer at the exit of a begin for one task.
-abbrev pub BeginTaskSaid : List ℕ → (n t o : ℕ) → Task → Task → BeginAnswer → Type 0
+abbrev pub BeginTaskSaid : List ℕ → (n t o : ℕ) → Task → Task → Result ⊤ Refusal → Type 0
 BeginTaskSaid file n t o own own' a = ◌≡◌ {A = Begin} (record { task = own'; answer = a }) (begin_task file n t o own)
 
-pub begin_record : (file : List ℕ) (n t o : ℕ) (own : Task) (r : Begin) (a : BeginAnswer)
-    → r ≡ begin_task file n t o own → a ≡ r.answer → BeginTaskSaid file n t o own r.task a
-begin_record file n t o own r a e ea = ap (λ (b : BeginAnswer). record { task = r.task; answer = b }) ea ∙ e
-
-pub begin_inside : (file : List ℕ) (ys : List Task) (t o : ℕ) (own' : Task) (a : BeginAnswer)
+pub begin_inside : (file : List ℕ) (ys : List Task) (t o : ℕ) (own' : Task) (a : Result ⊤ Refusal)
     → BeginTaskSaid file (length ys) t o (task_at ys t) own' a → BeginSaid file ys t o (set ys t own') a
 unfolding begin_of
 begin_inside file ys t o own' a e = ap (λ (s : Begin). record { row = set ys t s.task; answer = s.answer }) e
 
--- The answer for an idle record, from that for a record that is idle.
-pub begin_idle : (file : List ℕ) (n t o : ℕ) (own : Task) (r : Begin) → r ≡ begin_task file n t o own → own ≡ idle_task 0 → r.answer ≡ (begin_task file n t o (idle_task 0)).answer
-begin_idle file n t o own r e i = ap (λ (s : Begin). s.answer) e ∙ ap (λ (w : Task). (begin_task file n t o w).answer) i
-
-pub begin_past : (file : List ℕ) (ys : List Task) (t o : ℕ) (a : BeginAnswer)
+pub begin_past : (file : List ℕ) (ys : List Task) (t o : ℕ) (a : Result ⊤ Refusal)
     → length ys ≤ t → a ≡ (begin_task file (length ys) t o (idle_task 0)).answer → BeginSaid file ys t o ys a
 unfolding begin_of
 begin_past file ys t o a past e =
     rw (set_out ys t (begin_task file (length ys) t o (task_at ys t)).task past, past_idle ys t past)
-    (ap (λ (b : BeginAnswer). record { row = ys; answer = b }) e)
+    (ap (λ (b : Result ⊤ Refusal). record { row = ys; answer = b }) e)
 
 -- ---- Step
 
 -- The cells, the row and the answer at the exit of a step.
-abbrev pub StepSaid : (file cs : List ℕ) → List Task → ℕ → List ℕ → List Task → StepAnswer → Type 0
+abbrev pub StepSaid : (file cs : List ℕ) → List Task → ℕ → List ℕ → List Task → Result Progress Refusal → Type 0
 StepSaid file cs ys t cs' ys' a = ◌≡◌ {A = StepOutcome} (record { cells = cs'; row = ys'; answer = a }) (step_of file cs ys t)
 
 -- The cells, the record and the answer at the exit of a step for one task.
-abbrev pub StepTaskSaid : (file cs : List ℕ) (n t : ℕ) → Task → List ℕ → Task → StepAnswer → Type 0
+abbrev pub StepTaskSaid : (file cs : List ℕ) (n t : ℕ) → Task → List ℕ → Task → Result Progress Refusal → Type 0
 StepTaskSaid file cs n t own cs' own' a = ◌≡◌ {A = TaskOutcome} (record { cells = cs'; task = own'; answer = a }) (step_task file cs n t own)
 
-pub step_record : (file cs : List ℕ) (n t : ℕ) (own : Task) (r : Step) (cs' : List ℕ) (a : StepAnswer)
-    → StepTaskSaid file cs n t own cs' r.task r.answer → a ≡ r.answer → StepTaskSaid file cs n t own cs' r.task a
-step_record file cs n t own r cs' a e ea = ap (λ (b : StepAnswer). record { cells = cs'; task = r.task; answer = b }) ea ∙ e
-
-pub step_inside : (file cs : List ℕ) (ys : List Task) (t : ℕ) (cs' : List ℕ) (own' : Task) (a : StepAnswer)
+pub step_inside : (file cs : List ℕ) (ys : List Task) (t : ℕ) (cs' : List ℕ) (own' : Task) (a : Result Progress Refusal)
     → StepTaskSaid file cs (length ys) t (task_at ys t) cs' own' a → StepSaid file cs ys t cs' (set ys t own') a
 unfolding step_of
 step_inside file cs ys t cs' own' a e = ap (λ (s : TaskOutcome). record { cells = s.cells; row = set ys t s.task; answer = s.answer }) e
 
 -- The cells and the answer of a step for an idle record.
-abbrev pub IdleStepSaid : (file cs : List ℕ) (n t : ℕ) → List ℕ → StepAnswer → Type 0
+abbrev pub IdleStepSaid : (file cs : List ℕ) (n t : ℕ) → List ℕ → Result Progress Refusal → Type 0
 IdleStepSaid file cs n t cs' a = (cs' ≡ (step_task file cs n t (idle_task 0)).cells) × (a ≡ (step_task file cs n t (idle_task 0)).answer)
 
--- They are those for a record that is idle.
-pub step_idle : (file cs : List ℕ) (n t : ℕ) (own : Task) (r : Step) (cs' : List ℕ) → StepTaskSaid file cs n t own cs' r.task r.answer → own ≡ idle_task 0 → IdleStepSaid file cs n t cs' r.answer
-step_idle file cs n t own r cs' e i =
-    let there = e ∙ ap (λ (w : Task). step_task file cs n t w) i in
-    (ap (λ (s : TaskOutcome). s.cells) there, ap (λ (s : TaskOutcome). s.answer) there)
-
-pub step_past : (file cs : List ℕ) (ys : List Task) (t : ℕ) (cs' : List ℕ) (a : StepAnswer)
+pub step_past : (file cs : List ℕ) (ys : List Task) (t : ℕ) (cs' : List ℕ) (a : Result Progress Refusal)
     → length ys ≤ t → IdleStepSaid file cs (length ys) t cs' a → StepSaid file cs ys t cs' ys a
 unfolding step_of
 step_past file cs ys t cs' a past e =
     rw (set_out ys t (step_task file cs (length ys) t (task_at ys t)).task past, past_idle ys t past)
-    (ap (λ (l : List ℕ). record { cells = l; row = ys; answer = a }) e.0 ∙ ap (λ (b : StepAnswer). record { cells = (step_task file cs (length ys) t (idle_task 0)).cells; row = ys; answer = b }) e.1)
+    (ap (λ (l : List ℕ). record { cells = l; row = ys; answer = a }) e.0 ∙ ap (λ (b : Result Progress Refusal). record { cells = (step_task file cs (length ys) t (idle_task 0)).cells; row = ys; answer = b }) e.1)

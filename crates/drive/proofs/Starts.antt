@@ -1,6 +1,7 @@
 -- A start by its parts: the cells that it fills, and the records.
+use Rattle.std.specs.Prelude.{Result, Ok, Err, ⊤}
 use mathlib.Core.Path.{◌≡◌, refl, ap, sym, ◌∙◌}
-use mathlib.Core.Bool.{Bool, true, false}
+use mathlib.Core.Bool.{Bool, true, false, cond}
 use mathlib.Core.List.{List, [], ◌∷◌, ◌++◌, append-nil}
 use Prim.Native.Nat.{ℕ, zero, suc, ◌+◌, ◌<◌, ◌≤◌}
 use native.Mathlib.Numerals.{add-one}
@@ -10,35 +11,16 @@ use lib.Dec.{eqb}
 use lib.ListN.{length, get_or, drop, set, length-append}
 use lib.Seq.{set_at, drop-cons, drop-length, append_snoc}
 use Rattle.cells.specs.Image.{image_in}
-use Rattle.table.specs.declared.Checked.{Checked}
 use Rattle.table.specs.Check.{check_of}
-use Rattle.stepping.specs.declared.call.Admitted.{Admitted}
-use Rattle.stepping.specs.declared.call.Admitted.TheVariants as admitted
-use Rattle.stepping.specs.declared.answer.Start.{Start}
-use Rattle.stepping.specs.declared.answer.StartAnswer.{StartAnswer}
-use Rattle.stepping.specs.declared.answer.StartAnswer.TheVariants as start
 use Rattle.records.specs.declared.record.Task.{Task}
 use Rattle.records.specs.Record.{idle_task}
 use Rattle.stepping.specs.Call.{idle_row, StartOutcome, with_row, filled, start_of, with_cells, admit_start_of}
 use Rattle.stepping.proofs.Admission.{admitted_ranges}
-use Rattle.drive.specs.Start.{started_cells, idle_count}
-
--- ---- The cells
-
--- The answer and the cells after a start's tests, with n records.
-abbrev pub CellsSaid : (file cs : List ℕ) → ℕ → StartAnswer → List ℕ → Type 0
-CellsSaid file cs n a cs' = (a ≡ (admit_start_of file (length cs) n).answer) × (cs' ≡ started_cells (admit_start_of file (length cs) n) cs)
-
--- The answer and the cells after a start that is granted, and after one that is refused.
-pub cells_granted : (found s : Start) (cells cells' : List ℕ) → s ≡ found → s.granted ≡ true → cells' ≡ image_in (length cells) s.state → (s.answer ≡ found.answer) × (cells' ≡ started_cells found cells)
-cells_granted found s cells cells' e granted filled =
-    let here : cells' ≡ started_cells s cells = simp granted filled in
-    (ap (λ (f : Start). f.answer) e, here ∙ ap (λ (f : Start). started_cells f cells) e)
-
-pub cells_refused : (found s : Start) (cells : List ℕ) → s ≡ found → s.granted ≡ false → (s.answer ≡ found.answer) × (cells ≡ started_cells found cells)
-cells_refused found s cells e refused =
-    let here : cells ≡ started_cells s cells = simp refused in
-    (ap (λ (f : Start). f.answer) e, here ∙ ap (λ (f : Start). started_cells f cells) e)
+use Rattle.refusal.specs.declared.Refusal.TheVariants as cause
+use Rattle.laws.proofs.Clash.{never}
+use Rattle.table.specs.declared.Shape.{Shape}
+use Rattle.refusal.specs.declared.Refusal.{Refusal}
+use Rattle.stepping.specs.declared.call.Admission.{Admission}
 
 -- ---- The row
 
@@ -62,49 +44,40 @@ filled_more ys i zs own h e idle =
     rw (add-one, e, idle, drop-cons ys i own h)
     (set_at (idle_row i) (get_or ys i own) (drop (suc i) ys) (idle_task i) i (length_idle_row i) ∙ sym (append_snoc (idle_row i) (idle_task i) (drop (suc i) ys)))
 
--- As many records are filled as there are to fill.
-pub filled_whole : (k i : ℕ) (ys zs : List Task) → zs ≡ filled_to i ys → i ≤ k → k ≤ i → zs ≡ filled_to k ys
-filled_whole k i ys zs e low high = let all : i ≡ k = omega arith in e ∙ ap (λ (j : ℕ). filled_to j ys) all
+-- Every record is filled.
+pub filled_whole : (ys zs : List Task) → zs ≡ filled_to (length ys) ys → zs ≡ idle_row (length ys)
+filled_whole ys zs e = e ∙ rw (drop-length ys, append-nil (idle_row (length ys))) refl
 
 -- ---- The whole start
 
 -- The cells, the row and the answer at the exit of a start.
-abbrev pub StartSaid : (file cs : List ℕ) → List Task → List ℕ → List Task → StartAnswer → Type 0
+abbrev pub StartSaid : (file cs : List ℕ) → List Task → List ℕ → List Task → Result ⊤ Refusal → Type 0
 StartSaid file cs ys cs' ys' a = ◌≡◌ {A = StartOutcome} (record { cells = cs'; row = ys'; answer = a }) (start_of file cs ys)
 
--- A start by its parts, from what its tests find.
-abbrev parts : List ℕ → List Task → Start → StartOutcome
-parts cs ys found = record { cells = started_cells found cs; row = filled_to (idle_count found.answer (length ys)) ys; answer = found.answer }
+module _ (file cs : List ℕ) (ys : List Task) where
+  -- A start that is refused leaves everything as it was.
+  pub start_refused : (c : Refusal) → admit_start_of file (length cs) (length ys) ≡ Err c → StartSaid file cs ys cs ys (Err c)
+  unfolding start_of
+  start_refused c e = rw e refl
 
-by_parts : (cs : List ℕ) (ys : List Task) (w : Admitted) → parts cs ys (with_cells (length cs) (length ys) w) ≡ filled cs ys (with_cells (length cs) (length ys) w)
-unfolding image_in idle_row
-by_parts cs ys (admitted.Refused c) = refl
-by_parts cs ys (admitted.Admits c shape) = at (eqb (length cs) (length ys + 1)) refl
-  where
-    at : (b : Bool) → eqb (length cs) (length ys + 1) ≡ b → parts cs ys (with_cells (length cs) (length ys) (admitted.Admits c shape)) ≡ filled cs ys (with_cells (length cs) (length ys) (admitted.Admits c shape))
-    at false e = rw e refl
-    at true e =
-        rw (e, eqb-true (length cs) (length ys + 1) e, add-one, drop-length ys, append-nil (idle_row (length ys))) refl
+  -- What the tests of an accepted start have found.
+  passed : (q : ℕ) (w : Result Admission Refusal) → with_row (length ys) (check_of file) ≡ w → with_cells (length cs) (length ys) w ≡ Ok q → (length ys ≤ 8) × (length cs ≡ length ys + 1)
+  passed q (Err c) e f = never cc
+  passed q (Ok found) e f = at (eqb (length cs) (length ys + 1)) refl f
+    where
+      at : (b : Bool) → eqb (length cs) (length ys + 1) ≡ b → cond b (Ok found.shape.start) (Err cause.Cells) ≡ Ok q → (length ys ≤ 8) × (length cs ≡ length ys + 1)
+      at true l g = ((admitted_ranges (length ys) found (check_of file) e).few, eqb-true (length cs) (length ys + 1) l)
+      at false l g = never cc
 
-pub start_said_lem : (file cs : List ℕ) (ys : List Task) (cs' : List ℕ) (a : StartAnswer)
-    → CellsSaid file cs (length ys) a cs' → StartSaid file cs ys cs' (filled_to (idle_count a (length ys)) ys) a
-unfolding start_of admit_start_of
-start_said_lem file cs ys cs' a e =
-    rw (e.0, e.1) (by_parts cs ys (with_row (length ys) (check_of file)))
+  module _ (q : ℕ) (accepted : admit_start_of file (length cs) (length ys) ≡ Ok q) where
+    found : (length ys ≤ 8) × (length cs ≡ length ys + 1)
+    unfolding admit_start_of
+    found = passed q (with_row (length ys) (check_of file)) refl accepted
 
--- ---- How many records are filled
+    -- A row that is served has at most eight records.
+    pub few_records : length ys ≤ 8
+    few_records = found.0
 
-idle_below : (a : StartAnswer) (n : ℕ) → idle_count a n ≤ n
-idle_below start.Started n = omega arith
-idle_below (start.Refused c) n = omega arith
-
-few : (k n : ℕ) (checked : Checked) (found : Admitted) → with_row n checked ≡ found → idle_count (with_cells k n found).answer n ≤ 8
-few k n checked (admitted.Refused c) e = omega arith
-few k n checked (admitted.Admits c shape) e =
-    omega (arith, idle_below (with_cells k n (admitted.Admits c shape)).answer n, (admitted_ranges n c shape checked e).few)
-
--- The records that a start fills are in the row, and at most eight.
-pub count_fits : (file cs : List ℕ) (ys : List Task) (a : StartAnswer) → a ≡ (admit_start_of file (length cs) (length ys)).answer
-    → (idle_count a (length ys) ≤ length ys) × (idle_count a (length ys) ≤ 8)
-unfolding admit_start_of
-count_fits file cs ys a e = (idle_below a (length ys), rw e (few (length cs) (length ys) (check_of file) (with_row (length ys) (check_of file)) refl))
+    pub start_accepted : (cs' : List ℕ) (ys' : List Task) → cs' ≡ image_in (length cs) q → ys' ≡ idle_row (length ys) → StartSaid file cs ys cs' ys' (Ok tt)
+    unfolding start_of image_in
+    start_accepted cs' ys' e f = rw (e, f, accepted, found.1, add-one) refl

@@ -1,81 +1,36 @@
 // The calls on a lent row of task records: start fills it, begin and step take one record out, lend it and put it back.
 #![tactic(auto)]
 
-ghost use Rattle.std.specs.Prelude.{◌≡◌, ◌++◌, ◌<◌, ◌≤◌, length, drop};
+ghost use Rattle.std.specs.Prelude.{◌≡◌, ◌<◌, ◌≤◌, length};
 ghost use Rattle.records.specs.Record.{idle_task};
-ghost use Rattle.stepping.specs.Call.{idle_row, admit_start_of, start_of, begin_task, begin_of, step_task, step_of};
-ghost use Rattle.drive.specs.Start.{idle_count, started_cells};
+ghost use Rattle.stepping.specs.Call.{idle_row, start_of, begin_task, begin_of, step_task, step_of};
 
 use records::record;
 use records::record::Task;
-use stepping::answer::{BeginAnswer, StartAnswer, StepAnswer};
-use stepping::{answer, call};
+use refusal::Refusal;
+use stepping::answer::Progress;
+use stepping::call;
 
-// The record of an idle task at its place in the row.
-fn idle_at(index: usize) -> Task
-    requires { index < 8 }
-    ensures { result ≡ idle_task index }
-{
-    record::idle_task(index as u16)
-}
-
-// Tests a start and, if it is granted, fills the cells.
-#[tactic(auto, using(crate::proofs::Starts::cells_granted, crate::proofs::Starts::cells_refused))]
-fn start_cells(file: &[u8], cells: &mut [u64], tasks: usize) -> StartAnswer
-    ensures { (result ≡ (admit_start_of file.now (length cells.old) tasks).answer) × (cells.new ≡ started_cells (admit_start_of file.now (length cells.old) tasks) cells.old) }
-{
-    let admitted = call::admit_start(file, cells.len(), tasks);
-    if admitted.granted {
-        cells::image::fill_image(cells, admitted.state);
-    }
-    admitted.answer
-}
-
-// The records that a start fills: all, or none if it is refused.
-fn idle_count(answer: StartAnswer, tasks: usize) -> usize
-    ensures { result ≡ idle_count answer tasks }
-{
-    match answer {
-        StartAnswer::Started => tasks,
-        StartAnswer::Refused(_) => 0,
-    }
-}
-
-// Makes the first `count` records of a row those of idle tasks.
+// Makes every record of a row that of an idle task, whose priority is its own place.
 #[tactic(auto, using(crate::proofs::Starts::filled_none, crate::proofs::Starts::filled_more, crate::proofs::Starts::filled_whole))]
-fn fill_row(row: &mut [Task], count: usize)
-    requires { (count ≤ length row.old) × (count ≤ 8) }
-    ensures { row.new ≡ idle_row count ++ drop count row.old }
+fn fill_row(row: &mut [Task])
+    requires { length row.old ≤ 8 }
+    ensures { row.new ≡ idle_row (length row.old) }
 {
-    let mut i = 0;
-    while i < count {
-        row[i] = idle_at(i);
-        i += 1;
+    for (place, own) in row.iter_mut().enumerate() {
+        *own = record::idle_task(place as u16);
     }
 }
 
 // Starts a run: fills the cells with the image of the start state, and every record with an idle task.
-pub fn start(file: &[u8], cells: &mut [u64], row: &mut [Task]) -> StartAnswer
+#[tactic(auto, using(crate::proofs::Starts::few_records, crate::proofs::Starts::start_refused, crate::proofs::Starts::start_accepted))]
+pub fn start(file: &[u8], cells: &mut [u64], row: &mut [Task]) -> Result<(), Refusal>
     ensures { record { cells = cells.new; row = row.new; answer = result } ≡ start_of file.now cells.old row.old }
 {
-    let tasks = row.len();
-    let answer = start_cells(file, cells, tasks);
-    fill_row(row, idle_count(answer, tasks));
-    answer
-}
-
-// The answer of a begin.
-fn begin_answer(begun: answer::Begin) -> BeginAnswer
-    ensures { result ≡ begun.answer }
-{
-    begun.answer
-}
-
-// The answer of a step.
-fn step_answer(stepped: answer::Step) -> StepAnswer
-    ensures { result ≡ stepped.answer }
-{
-    stepped.answer
+    let state = call::admit_start(file, cells.len(), row.len())?;
+    cells::image::fill_image(cells, state);
+    fill_row(row);
+    Ok(())
 }
 
 // Begins an operation for a task whose record is lent.
@@ -85,12 +40,11 @@ pub fn begin_record(
     task: usize,
     operation: usize,
     own: &mut Task,
-) -> BeginAnswer
+) -> Result<(), Refusal>
     ensures { record { task = own.new; answer = result } ≡ begin_task file.now tasks task operation own.old }
 {
-    let begun = call::begin_task(file, tasks, task, operation, *own);
-    *own = begun.task;
-    begin_answer(begun)
+    *own = call::begin_task(file, tasks, task, operation, *own)?;
+    Ok(())
 }
 
 // Makes one step for a task whose record is lent.
@@ -100,16 +54,21 @@ pub fn step_record(
     tasks: usize,
     task: usize,
     own: &mut Task,
-) -> StepAnswer
+) -> Result<Progress, Refusal>
     ensures { record { cells = cells.new; task = own.new; answer = result } ≡ step_task file.now cells.old tasks task own.old }
 {
-    let stepped = call::step_task(file, cells, tasks, task, *own);
+    let stepped = call::step_task(file, cells, tasks, task, *own)?;
     *own = stepped.task;
-    step_answer(stepped)
+    Ok(stepped.progress)
 }
 
 // Begins an operation for the task at a place of the row: its record is taken out, lent and put back.
-fn begin_in(file: &[u8], row: &mut [Task], index: usize, operation: usize) -> BeginAnswer
+fn begin_in(
+    file: &[u8],
+    row: &mut [Task],
+    index: usize,
+    operation: usize,
+) -> Result<(), Refusal>
     requires { index < length row.old }
     ensures { record { row = row.new; answer = result } ≡ begin_of file.now row.old index operation }
 {
@@ -121,17 +80,21 @@ fn begin_in(file: &[u8], row: &mut [Task], index: usize, operation: usize) -> Be
 }
 
 // What a begin answers for a task that has no record in the row.
-#[tactic(auto, using(crate::proofs::Calls::begin_idle))]
-fn begin_past(file: &[u8], tasks: usize, task: usize, operation: usize) -> BeginAnswer
+fn begin_past(file: &[u8], tasks: usize, task: usize, operation: usize) -> Result<(), Refusal>
     ensures { result ≡ (begin_task file.now tasks task operation (idle_task 0)).answer }
 {
-    let past = call::begin_task(file, tasks, task, operation, record::idle_task(0));
-    past.answer
+    let mut past = record::idle_task(0);
+    begin_record(file, tasks, task, operation, &mut past)
 }
 
 // Begins an operation for a task.
 #[tactic(auto, using(crate::proofs::Calls::begin_past))]
-pub fn begin(file: &[u8], row: &mut [Task], task: usize, operation: usize) -> BeginAnswer
+pub fn begin(
+    file: &[u8],
+    row: &mut [Task],
+    task: usize,
+    operation: usize,
+) -> Result<(), Refusal>
     ensures { record { row = row.new; answer = result } ≡ begin_of file.now row.old task operation }
 {
     let tasks = row.len();
@@ -142,7 +105,12 @@ pub fn begin(file: &[u8], row: &mut [Task], task: usize, operation: usize) -> Be
 }
 
 // Makes one step for the task at a place of the row: its record is taken out, lent and put back.
-fn step_in(file: &[u8], cells: &mut [u64], row: &mut [Task], index: usize) -> StepAnswer
+fn step_in(
+    file: &[u8],
+    cells: &mut [u64],
+    row: &mut [Task],
+    index: usize,
+) -> Result<Progress, Refusal>
     requires { index < length row.old }
     ensures { record { cells = cells.new; row = row.new; answer = result } ≡ step_of file.now cells.old row.old index }
 {
@@ -154,16 +122,25 @@ fn step_in(file: &[u8], cells: &mut [u64], row: &mut [Task], index: usize) -> St
 }
 
 // What a step answers for a task that has no record in the row; the cells stay as they were.
-#[tactic(auto, using(crate::proofs::Calls::step_idle))]
-fn step_past(file: &[u8], cells: &mut [u64], tasks: usize, task: usize) -> StepAnswer
+fn step_past(
+    file: &[u8],
+    cells: &mut [u64],
+    tasks: usize,
+    task: usize,
+) -> Result<Progress, Refusal>
     ensures { (cells.new ≡ (step_task file.now cells.old tasks task (idle_task 0)).cells) × (result ≡ (step_task file.now cells.old tasks task (idle_task 0)).answer) }
 {
-    let past = call::step_task(file, cells, tasks, task, record::idle_task(0));
-    past.answer
+    let mut past = record::idle_task(0);
+    step_record(file, cells, tasks, task, &mut past)
 }
 
 // Makes one step for a task.
-pub fn step(file: &[u8], cells: &mut [u64], row: &mut [Task], task: usize) -> StepAnswer
+pub fn step(
+    file: &[u8],
+    cells: &mut [u64],
+    row: &mut [Task],
+    task: usize,
+) -> Result<Progress, Refusal>
     ensures { record { cells = cells.new; row = row.new; answer = result } ≡ step_of file.now cells.old row.old task }
 {
     let tasks = row.len();

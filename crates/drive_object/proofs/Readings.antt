@@ -1,4 +1,5 @@
 -- A kernel reads from a word what the answer says.
+use Rattle.std.specs.Prelude.{Result, Ok, Err, ⊤}
 use mathlib.Core.Path.{◌≡◌, refl, ap, ◌∙◌}
 use mathlib.Core.Bool.{Bool, true, false}
 use mathlib.Core.Logic.{◌⊎◌, inl, inr}
@@ -10,11 +11,8 @@ use Rattle.refusal.specs.Number.{number_of, Said}
 use Rattle.refusal.specs.declared.Refusal.{Refusal}
 use Rattle.refusal.specs.declared.Refusal.TheVariants.{File, Dimensions, Length, NextState, Row, Cells, Task, Operation, Pending, Idle, Record, Cell, Line, Rings, Chainage, Room, Unacknowledged, Window, Question}
 use Rattle.cells.specs.Ceiling.{ceiling_of, ceiling_said}
-use Rattle.cells.specs.declared.ceiling.Ceiling.{Ceiling}
-use Rattle.cells.specs.declared.ceiling.Ceiling.TheVariants as ceiling
 use Rattle.cells.proofs.Ceilings.{product, refused_outside}
 use Rattle.table.specs.declared.Shape.{Shape}
-use Rattle.table.specs.declared.Checked.TheVariants as table
 use Rattle.machine.specs.Outcome.{Outcome}
 use Rattle.machine.specs.Calls as paper
 use Rattle.machine.specs.Calls.{Call}
@@ -22,15 +20,7 @@ use Rattle.stepping.specs.Call.{start_said}
 use Rattle.stepping.specs.Runs.{Store}
 use Rattle.stepping.specs.Opening.{Opening, shown}
 use Rattle.stepping.proofs.Theorem.{refusals_known}
-use Rattle.stepping.specs.declared.answer.StartAnswer.{StartAnswer}
-use Rattle.stepping.specs.declared.answer.StartAnswer.TheVariants as start
 use Rattle.refusal.specs.Written.{written_said}
-use Rattle.refusal.specs.declared.Written.{Written}
-use Rattle.refusal.specs.declared.Written.TheVariants as written
-use Rattle.window.specs.declared.WindowAnswer.{WindowAnswer}
-use Rattle.window.specs.declared.WindowAnswer.TheVariants as window
-use Rattle.window.specs.declared.LineAnswer.{LineAnswer}
-use Rattle.window.specs.declared.LineAnswer.TheVariants as line
 use Rattle.window.specs.Serve.{window_said}
 use Rattle.window.specs.Line.{line_said}
 use Rattle.ring_desk.specs.Owner.{owner_of, owner_said}
@@ -42,6 +32,8 @@ use Rattle.game.specs.declared.ForceAnswer.TheVariants as force
 use Rattle.game.specs.Force.{force_of, force_said, is_reached}
 use Rattle.game.proofs.Theorem.{operation_below}
 use Rattle.drive_object.specs.Word.{word_of, ended_flags, refusal_in, flags_in, first_flag_in, second_flag_in, low_in, high_in, value_at, refused_word, check_word, start_word, answer_word, ceiling_word, window_word, line_word, owner_word, written_word, force_word}
+use Rattle.window.specs.declared.LineLevel.{LineLevel}
+use Rattle.window.specs.declared.LineLevel.TheVariants as line
 
 -- The four parts of a word, each as wide as its bytes.
 pub parts_read : (c f l h : ℕ) → c < 256 → f < 256 → l < 65536
@@ -80,25 +72,25 @@ pub refused_read : (c : Refusal) → let w = refused_word c in (refusal_in w ≡
 refused_read c = parts_read (number_of c) 0 0 0 (number_fits c) (omega arith) (omega arith)
 
 -- A start shows its number, that of the refusal, 0 if the call is accepted, and nothing else.
-pub start_read : (a : StartAnswer) → let w = start_word a in (refusal_in w ≡ (start_said a).number) × (flags_in w ≡ 0) × (low_in w ≡ 0) × (high_in w ≡ 0)
-start_read start.Started = (refl, refl, refl, refl)
-start_read (start.Refused c) = refused_read c
+pub start_read : (a : Result ⊤ Refusal) → let w = start_word a in (refusal_in w ≡ (start_said a).number) × (flags_in w ≡ 0) × (low_in w ≡ 0) × (high_in w ≡ 0)
+start_read (Ok tt) = (refl, refl, refl, refl)
+start_read (Err c) = refused_read c
 
 -- A window call shows its number and nothing else; a line shows its number, and 1 if it is up.
-pub window_read : (a : WindowAnswer) → let w = window_word a in (refusal_in w ≡ (window_said a).number) × (flags_in w ≡ 0) × (low_in w ≡ 0) × (high_in w ≡ 0)
-window_read window.Served = (refl, refl, refl, refl)
-window_read (window.Refused c) = refused_read c
+pub window_read : (a : Result ⊤ Refusal) → let w = window_word a in (refusal_in w ≡ (window_said a).number) × (flags_in w ≡ 0) × (low_in w ≡ 0) × (high_in w ≡ 0)
+window_read (Ok tt) = (refl, refl, refl, refl)
+window_read (Err c) = refused_read c
 
-pub line_read : (a : LineAnswer) → let w = line_word a in (refusal_in w ≡ (line_said a).number) × (flags_in w ≡ 0) × (low_in w ≡ value_at (line_said a) 0) × (high_in w ≡ 0)
-line_read line.Up = parts_read 0 0 1 0 (omega arith) (omega arith) (omega arith)
-line_read line.Down = (refl, refl, refl, refl)
-line_read (line.Refused c) = refused_read c
+pub line_read : (a : Result LineLevel Refusal) → let w = line_word a in (refusal_in w ≡ (line_said a).number) × (flags_in w ≡ 0) × (low_in w ≡ value_at (line_said a) 0) × (high_in w ≡ 0)
+line_read (Ok line.Up) = parts_read 0 0 1 0 (omega arith) (omega arith) (omega arith)
+line_read (Ok line.Down) = (refl, refl, refl, refl)
+line_read (Err c) = refused_read c
 
 -- A ceiling's word shows its number and the steps, and nothing else.
-pub ceiling_read : (a : Ceiling) → let w = ceiling_word a in
+pub ceiling_read : (a : Result ℕ Refusal) → let w = ceiling_word a in
     (refusal_in w ≡ (ceiling_said a).number) × (flags_in w ≡ 0) × (low_in w ≡ 0) × (high_in w ≡ value_at (ceiling_said a) 0)
-ceiling_read (ceiling.Steps k) = parts_read 0 0 0 k (omega arith) (omega arith) (omega arith)
-ceiling_read (ceiling.Refused c) = refused_read c
+ceiling_read (Ok k) = parts_read 0 0 0 k (omega arith) (omega arith) (omega arith)
+ceiling_read (Err c) = refused_read c
 
 -- For 1 to 8 tasks these are 0 and the product; for every other number of tasks the word is 5.
 pub drive_ceiling_read : (n : ℕ) → let w = ceiling_word (ceiling_of n) in
@@ -128,10 +120,10 @@ desk_owner_read rings chainage = owner_read (owner_of rings chainage) (small (ow
         omega (arith, same, range.few, found.listed)
     small (owner.Refused c) e = omega arith
 
-pub written_read : (a : Written) → let w = written_word a in
+pub written_read : (a : Result ℕ Refusal) → let w = written_word a in
     (refusal_in w ≡ (written_said a).number) × (flags_in w ≡ 0) × (low_in w ≡ 0) × (high_in w ≡ value_at (written_said a) 0)
-written_read (written.Length k) = parts_read 0 0 0 k (omega arith) (omega arith) (omega arith)
-written_read (written.Refused c) = refused_read c
+written_read (Ok k) = parts_read 0 0 0 k (omega arith) (omega arith) (omega arith)
+written_read (Err c) = refused_read c
 
 -- Force shows its number, whether it is a yes, whether no move is needed for it, the operation, and nothing else.
 abbrev ForceShown : ForceAnswer → Type 0
@@ -152,10 +144,10 @@ pub drive_force_read : (file : List ℕ) (state : ℕ) (targets : List ℕ) (mov
 drive_force_read file state targets moves = force_read (force_of file state targets moves) (operation_below file state targets moves)
 
 -- A check shows its number, and the three numbers of an accepted table.
-pub check_refused_read : (c : Refusal) → let w = check_word (table.Refused c) in (refusal_in w ≡ number_of c) × (flags_in w ≡ 0) × (low_in w ≡ 0) × (high_in w ≡ 0)
+pub check_refused_read : (c : Refusal) → let w = check_word (Err c) in (refusal_in w ≡ number_of c) × (flags_in w ≡ 0) × (low_in w ≡ 0) × (high_in w ≡ 0)
 check_refused_read c = refused_read c
 
-pub check_read : (shape : Shape) → shape.states < 65536 → shape.operations < 65536 → let w = check_word (table.Accepted shape) in
+pub check_read : (shape : Shape) → shape.states < 65536 → shape.operations < 65536 → let w = check_word (Ok shape) in
     (refusal_in w ≡ 0) × (low_in w ≡ shape.states) × (high_in w % 65536 ≡ shape.operations) × (high_in w / 65536 ≡ shape.start)
 check_read shape s m = (omega arith, omega (arith, s), omega (arith, s, m), omega (arith, s, m))
 

@@ -1,21 +1,13 @@
 -- The answers of the exported calls, each as one word of 64 bits: the number and the values that it says.
-use Rattle.std.specs.Prelude.{Bool, ℕ, ◌+◌, ◌*◌, ◌/◌, ◌%◌, get_or}
+use Rattle.std.specs.Prelude.{Bool, ℕ, ◌+◌, ◌*◌, ◌/◌, ◌%◌, get_or, Result, ⊤}
 use Rattle.laws.specs.Bit.{bit}
 use Rattle.refusal.specs.Number.{Said, refused}
 use Rattle.refusal.specs.Written.{written_said}
-use Rattle.refusal.specs.declared.Written.{Written}
 use Rattle.refusal.specs.declared.Refusal.{Refusal}
 use Rattle.cells.specs.Ceiling.{ceiling_said}
-use Rattle.cells.specs.declared.ceiling.Ceiling.{Ceiling}
 use Rattle.table.specs.Check.{check_said}
-use Rattle.table.specs.declared.Checked.{Checked}
 use Rattle.machine.specs.Calls as paper
-use Rattle.stepping.specs.declared.answer.StepAnswer.{StepAnswer}
-use Rattle.stepping.specs.declared.answer.StartAnswer.{StartAnswer}
-use Rattle.stepping.specs.declared.answer.BeginAnswer.{BeginAnswer}
 use Rattle.stepping.specs.Call.{start_said, begin_said, step_said}
-use Rattle.window.specs.declared.WindowAnswer.{WindowAnswer}
-use Rattle.window.specs.declared.LineAnswer.{LineAnswer}
 use Rattle.window.specs.Serve.{window_said}
 use Rattle.window.specs.Line.{line_said}
 use Rattle.ring_desk.specs.declared.OwnerAnswer.{OwnerAnswer}
@@ -23,6 +15,9 @@ use Rattle.ring_desk.specs.Owner.{owner_said}
 use Rattle.game.specs.declared.ForceAnswer.{ForceAnswer}
 use Rattle.game.specs.declared.ForceAnswer.TheVariants as force
 use Rattle.game.specs.Force.{force_said}
+use Rattle.table.specs.declared.Shape.{Shape}
+use Rattle.stepping.specs.declared.answer.Progress.{Progress}
+use Rattle.window.specs.declared.LineLevel.{LineLevel}
 
 -- Byte 0 of a word is the number of the refusal, byte 1 has flags, bytes 2 and 3 are the low number, bytes 4 to 7 the high one.
 abbrev pub word_of : (refusal flags low high : ℕ) → ℕ
@@ -69,10 +64,10 @@ abbrev pub refused_word : Refusal → ℕ
 refused_word c = word_of (refused c).number 0 0 0
 
 -- An accepted table has its states as the low number, its operations and its start state in the halves of the high one.
-abbrev pub check_word : Checked → ℕ
+abbrev pub check_word : Result Shape Refusal → ℕ
 check_word a = word_of (check_said a).number 0 (value_at (check_said a) 0) (value_at (check_said a) 1 + 65536 * value_at (check_said a) 2)
 
-abbrev pub start_word : StartAnswer → ℕ
+abbrev pub start_word : Result ⊤ Refusal → ℕ
 start_word a = word_of (start_said a).number 0 0 0
 
 -- An operation that has ended says so, and whether it moved the state, in the flags; it has its response as the low number and its
@@ -83,22 +78,22 @@ answer_word paper.Running = word_of 0 0 0 0
 answer_word (paper.Ended outcome steps) = word_of 0 (ended_flags outcome.moved) outcome.response steps
 answer_word (paper.Refused number) = word_of number 0 0 0
 
-abbrev pub begin_word : BeginAnswer → ℕ
+abbrev pub begin_word : Result ⊤ Refusal → ℕ
 begin_word a = answer_word (begin_said a)
 
-abbrev pub step_word : StepAnswer → ℕ
+abbrev pub step_word : Result Progress Refusal → ℕ
 step_word a = answer_word (step_said a)
 
 -- A window call has its number alone.
-abbrev pub window_word : WindowAnswer → ℕ
+abbrev pub window_word : Result ⊤ Refusal → ℕ
 window_word a = word_of (window_said a).number 0 0 0
 
 -- A line that is up has 1 as the low number.
-abbrev pub line_word : LineAnswer → ℕ
+abbrev pub line_word : Result LineLevel Refusal → ℕ
 line_word a = word_of (line_said a).number 0 (value_at (line_said a) 0) 0
 
 -- A ceiling is the high number.
-abbrev pub ceiling_word : Ceiling → ℕ
+abbrev pub ceiling_word : Result ℕ Refusal → ℕ
 ceiling_word a = word_of (ceiling_said a).number 0 0 (value_at (ceiling_said a) 0)
 
 -- The number of an owner is the low number.
@@ -106,7 +101,7 @@ abbrev pub owner_word : OwnerAnswer → ℕ
 owner_word a = word_of (owner_said a).number 0 (value_at (owner_said a) 0) 0
 
 -- The length of what was written is the high number.
-abbrev pub written_word : Written → ℕ
+abbrev pub written_word : Result ℕ Refusal → ℕ
 written_word a = word_of (written_said a).number 0 0 (value_at (written_said a) 0)
 
 -- Force says yes in the flags, and has the operation as the low number.

@@ -13,15 +13,14 @@ ghost use Rattle.canonical.specs.Canonical.{canonical_written};
 ghost use Rattle.game.specs.Force.{force_of};
 ghost use Rattle.drive_object.specs.Word.{word_of, ended_flags, refused_word, check_word, start_word, begin_word, step_word, window_word, line_word, ceiling_word, owner_word, written_word, force_word};
 
-use cells::ceiling::Ceiling;
 use cells::{bit, ceiling};
 use game::ForceAnswer;
 use records::record::Task;
-use refusal::{Refusal, Written};
+use refusal::Refusal;
 use ring_desk::OwnerAnswer;
-use stepping::answer::{BeginAnswer, StartAnswer, StepAnswer};
-use table::Checked;
-use window::{LineAnswer, WindowAnswer};
+use stepping::answer::Progress;
+use table::Shape;
+use window::LineLevel;
 
 // The word of a refusal's number, of flags, and of two numbers.
 fn word(cause: u8, flags: u8, low: u16, high: u32) -> u64
@@ -53,80 +52,80 @@ fn halves(low: u16, high: u16) -> u32
 }
 
 // The word of what a check of a table answers.
-fn check_word(answer: Checked) -> u64
+fn check_word(answer: Result<Shape, Refusal>) -> u64
     ensures { result ≡ check_word answer }
 {
     match answer {
-        Checked::Accepted(shape) => {
+        Ok(shape) => {
             word(0, 0, shape.states, halves(shape.operations, shape.start))
         }
-        Checked::Refused(cause) => refused_word(cause),
+        Err(cause) => refused_word(cause),
     }
 }
 
 // The word of what a start answers.
-fn start_word(answer: StartAnswer) -> u64
+fn start_word(answer: Result<(), Refusal>) -> u64
     ensures { result ≡ start_word answer }
 {
     match answer {
-        StartAnswer::Started => word(0, 0, 0, 0),
-        StartAnswer::Refused(cause) => refused_word(cause),
+        Ok(()) => word(0, 0, 0, 0),
+        Err(cause) => refused_word(cause),
     }
 }
 
 // The word of what a begin answers.
-fn begin_word(answer: BeginAnswer) -> u64
+fn begin_word(answer: Result<(), Refusal>) -> u64
     ensures { result ≡ begin_word answer }
 {
     match answer {
-        BeginAnswer::Begun => word(0, 0, 0, 0),
-        BeginAnswer::Refused(cause) => refused_word(cause),
+        Ok(()) => word(0, 0, 0, 0),
+        Err(cause) => refused_word(cause),
     }
 }
 
 // The word of what a step answers.
-fn step_word(answer: StepAnswer) -> u64
+fn step_word(answer: Result<Progress, Refusal>) -> u64
     ensures { result ≡ step_word answer }
 {
     match answer {
-        StepAnswer::Running => word(0, 0, 0, 0),
-        StepAnswer::Ended {
+        Ok(Progress::Running) => word(0, 0, 0, 0),
+        Ok(Progress::Ended {
             response,
             moved,
             steps,
-        } => word(0, ended_flags(moved), response, steps),
-        StepAnswer::Refused(cause) => refused_word(cause),
+        }) => word(0, ended_flags(moved), response, steps),
+        Err(cause) => refused_word(cause),
     }
 }
 
 // The word of what a window call answers.
-fn window_word(answer: WindowAnswer) -> u64
+fn window_word(answer: Result<(), Refusal>) -> u64
     ensures { result ≡ window_word answer }
 {
     match answer {
-        WindowAnswer::Served => word(0, 0, 0, 0),
-        WindowAnswer::Refused(cause) => refused_word(cause),
+        Ok(()) => word(0, 0, 0, 0),
+        Err(cause) => refused_word(cause),
     }
 }
 
 // The word of an interrupt line.
-fn line_word(answer: LineAnswer) -> u64
+fn line_word(answer: Result<LineLevel, Refusal>) -> u64
     ensures { result ≡ line_word answer }
 {
     match answer {
-        LineAnswer::Up => word(0, 0, 1, 0),
-        LineAnswer::Down => word(0, 0, 0, 0),
-        LineAnswer::Refused(cause) => refused_word(cause),
+        Ok(LineLevel::Up) => word(0, 0, 1, 0),
+        Ok(LineLevel::Down) => word(0, 0, 0, 0),
+        Err(cause) => refused_word(cause),
     }
 }
 
 // The word of a ceiling.
-fn ceiling_word(answer: Ceiling) -> u64
+fn ceiling_word(answer: Result<u32, Refusal>) -> u64
     ensures { result ≡ ceiling_word answer }
 {
     match answer {
-        Ceiling::Steps(steps) => word(0, 0, 0, steps),
-        Ceiling::Refused(cause) => refused_word(cause),
+        Ok(steps) => word(0, 0, 0, steps),
+        Err(cause) => refused_word(cause),
     }
 }
 
@@ -141,12 +140,12 @@ fn owner_word(answer: OwnerAnswer) -> u64
 }
 
 // The word of what was written into lent room.
-fn written_word(answer: Written) -> u64
+fn written_word(answer: Result<u32, Refusal>) -> u64
     ensures { result ≡ written_word answer }
 {
     match answer {
-        Written::Length(length) => word(0, 0, 0, length),
-        Written::Refused(cause) => refused_word(cause),
+        Ok(length) => word(0, 0, 0, length),
+        Err(cause) => refused_word(cause),
     }
 }
 

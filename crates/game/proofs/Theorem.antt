@@ -1,4 +1,5 @@
 -- The statements about the call: what is turned away, and that the answers are those of the strategies.
+use Rattle.std.specs.Prelude.{Result, Ok, Err}
 use mathlib.Core.Path.{◌≡◌, refl, sym, ap, subst, ◌∙◌}
 use mathlib.Core.Bool.{Bool, true, false}
 use mathlib.Core.Logic.{◌⊎◌, inl, inr, ⊎_elim}
@@ -17,8 +18,6 @@ use Rattle.refusal.specs.declared.Refusal.{Refusal}
 use Rattle.refusal.specs.Number.{Said, accepted, refused_by}
 use Rattle.refusal.proofs.Numbers.{numbers_apart}
 use Rattle.table.specs.declared.Shape.{Shape}
-use Rattle.table.specs.declared.Checked.{Checked}
-use Rattle.table.specs.declared.Checked.TheVariants as table
 use Rattle.table.specs.Check.{check_of, check_said}
 use Rattle.table.proofs.Fitting.{refused}
 use Rattle.table.proofs.Accepted.{accepted_fitting, accepted_next}
@@ -50,7 +49,7 @@ one_value e = let z : ◌≡◌ {A = ℕ} 1 2 = ap (λ (s : Said). length s.valu
 no_yes : {rest : List ℕ} → accepted (0 ∷ []) ≡ accepted (1 ∷ rest) → ⊥
 no_yes e = let z : ◌≡◌ {A = ℕ} 0 1 = ap (λ (s : Said). get_or s.values 0 0) e in omega arith
 
-same_shape : {one other : Shape} → table.Accepted one ≡ table.Accepted other → one ≡ other
+same_shape : {one other : Shape} → ◌≡◌ {A = Result Shape Refusal} (Ok one) (Ok other) → one ≡ other
 same_shape e = cc e
 
 operation_said : {o p : ℕ} → accepted (1 ∷ o ∷ []) ≡ accepted (1 ∷ p ∷ []) → o ≡ p
@@ -58,7 +57,7 @@ operation_said e = ap (λ (s : Said). get_or s.values 1 0) e
 
 -- ---- The answers to a question about an accepted table
 
-module _ (file : List ℕ) (shape : Shape) (state : ℕ) (targets : List ℕ) (moves : ℕ) (e : check_of file ≡ table.Accepted shape) (asked : Asked shape state targets moves) where
+module _ (file : List ℕ) (shape : Shape) (state : ℕ) (targets : List ℕ) (moves : ℕ) (e : check_of file ≡ Ok shape) (asked : Asked shape state targets moves) where
   some_operation : 1 ≤ shape.operations
   some_operation = (accepted_fitting file shape e).some_operation
 
@@ -162,7 +161,7 @@ module _ (file : List ℕ) (state : ℕ) (targets : List ℕ) (moves : ℕ) wher
   abbrev said : Said
   said = force_said (force_of file state targets moves)
 
-  table_refused : (cause : Refusal) → check_of file ≡ table.Refused cause → ForceRefused file state targets moves
+  table_refused : (cause : Refusal) → check_of file ≡ Err cause → ForceRefused file state targets moves
   table_refused cause e =
       let same : said ≡ check_said (check_of file) = ap force_said (forced_refused file state targets moves cause e) ∙ sym (ap check_said e) in
       let few : (number : ℕ) → 1 ≤ number → said ≡ refused_by number → number ≤ 4 = λ number some f. (check_answered file).only number some (sym same ∙ f) in
@@ -172,7 +171,7 @@ module _ (file : List ℕ) (state : ℕ) (targets : List ℕ) (moves : ℕ) wher
         only = λ number some f. inl (few number some f);
       }
 
-  module _ (shape : Shape) (e : check_of file ≡ table.Accepted shape) where
+  module _ (shape : Shape) (e : check_of file ≡ Ok shape) where
     checked_accepted : (number : ℕ) → 1 ≤ number → check_said (check_of file) ≡ refused_by number → ⊥
     checked_accepted number some f = numbers_apart (sym (ap check_said e) ∙ f) (λ z. omega arith)
 
@@ -205,19 +204,19 @@ module _ (file : List ℕ) (state : ℕ) (targets : List ℕ) (moves : ℕ) wher
   pub force_refused : ForceRefused file state targets moves
   force_refused = by (check_of file) refl
     where
-      asked : (shape : Shape) → check_of file ≡ table.Accepted shape → (b : Bool) → question_fits shape state targets moves ≡ b → ForceRefused file state targets moves
+      asked : (shape : Shape) → check_of file ≡ Ok shape → (b : Bool) → question_fits shape state targets moves ≡ b → ForceRefused file state targets moves
       asked shape e true fits = asked_served shape e fits
       asked shape e false unfit = asked_unfit shape e unfit
 
-      by : (checked : Checked) → check_of file ≡ checked → ForceRefused file state targets moves
-      by (table.Refused cause) e = table_refused cause e
-      by (table.Accepted shape) e = asked shape e (question_fits shape state targets moves) refl
+      by : (checked : Result Shape Refusal) → check_of file ≡ checked → ForceRefused file state targets moves
+      by (Err cause) e = table_refused cause e
+      by (Ok shape) e = asked shape e (question_fits shape state targets moves) refl
 
   -- ---- What follows for a planner
 
   -- A question that is answered is in range.
   abbrev InRange : Type 0
-  InRange = (shape : Shape) × (check_of file ≡ table.Accepted shape) × Asked shape state targets moves
+  InRange = (shape : Shape) × (check_of file ≡ Ok shape) × Asked shape state targets moves
 
   known_asked : {v : ℕ} {vs : List ℕ} → said ≡ accepted (v ∷ vs) → InRange
   known_asked {v} {vs} f = by (check_of file) refl
@@ -225,13 +224,13 @@ module _ (file : List ℕ) (state : ℕ) (targets : List ℕ) (moves : ℕ) wher
       answered : {cause : Refusal} {A : Type 0} → force_of file state targets moves ≡ Refused cause → A
       answered r = let z : 0 ≡ suc (length vs) = ap (λ (s : Said). length s.values) (sym (ap force_said r) ∙ f) in absurd (omega arith)
 
-      asked : (shape : Shape) → check_of file ≡ table.Accepted shape → (b : Bool) → question_fits shape state targets moves ≡ b → InRange
+      asked : (shape : Shape) → check_of file ≡ Ok shape → (b : Bool) → question_fits shape state targets moves ≡ b → InRange
       asked shape e true fits = (shape, e, fits_asked shape targets state moves fits)
       asked shape e false unfit = answered (forced_unfit file state targets moves shape e unfit)
 
-      by : (checked : Checked) → check_of file ≡ checked → InRange
-      by (table.Refused cause) e = answered (forced_refused file state targets moves cause e)
-      by (table.Accepted shape) e = asked shape e (question_fits shape state targets moves) refl
+      by : (checked : Result Shape Refusal) → check_of file ≡ checked → InRange
+      by (Err cause) e = answered (forced_refused file state targets moves cause e)
+      by (Ok shape) e = asked shape e (question_fits shape state targets moves) refl
 
 -- A yes of a turn is a yes of the call.
 yes_said : (a : ForceAnswer) → is_yes a ≡ true → SaysYes (force_said a)
@@ -244,7 +243,7 @@ yes_said (Refused cause) e = clash e refl
 forces_more : {file : List ℕ} {shape : Shape} {targets : List ℕ} {moves state operation : ℕ} → Forces file shape targets moves state operation → Forces file shape targets (moves + 1) state operation
 forces_more f = record { jack = f.jack; legal = f.legal; opens = f.opens; meets = λ link legal. let (made, few, met) = f.meets link legal in (made, omega arith, met) }
 
-module _ (file : List ℕ) (shape : Shape) (state : ℕ) (targets : List ℕ) (moves : ℕ) (e : check_of file ≡ table.Accepted shape) (asked : Asked shape state targets moves) where
+module _ (file : List ℕ) (shape : Shape) (state : ℕ) (targets : List ℕ) (moves : ℕ) (e : check_of file ≡ Ok shape) (asked : Asked shape state targets moves) where
   turn_yes : is_yes (turn_of file shape targets moves state) ≡ true → Yes file state targets moves
   turn_yes y = subst (λ a. SaysYes (force_said a)) (sym (answer_is file shape state targets moves e asked)) (yes_said (turn_of file shape targets moves state) y)
 
@@ -269,7 +268,7 @@ stays_yes file state targets moves more (inr (operation, f)) =
     forced_yes file shape state targets (moves + 1) e (asked_more more asked) operation known (forces_more forced)
 
 -- A turn of the jack console that is won: the state is a target, or the question with the moves left is a yes.
-module _ (file : List ℕ) (shape : Shape) (state : ℕ) (targets : List ℕ) (moves : ℕ) (e : check_of file ≡ table.Accepted shape) (asked : Asked shape state targets moves) where
+module _ (file : List ℕ) (shape : Shape) (state : ℕ) (targets : List ℕ) (moves : ℕ) (e : check_of file ≡ Ok shape) (asked : Asked shape state targets moves) where
   won_on : (left met : ℕ) → left ≤ 4 → met < shape.states → ours file shape targets left met ≡ true → Target targets met ⊎ Yes file met targets left
   won_on zero met few known y = inl (tested_target targets met (sym (ours_none file shape targets met) ∙ y))
   won_on (suc left) met few known y =

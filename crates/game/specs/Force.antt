@@ -1,17 +1,16 @@
 -- docs/FORMATS.md, "Which console can force it": the call for all arguments, and what its answer says.
-use Rattle.std.specs.Prelude.{Bool, true, false, cond, ◌&&◌, List, [], ◌∷◌, ℕ, zero, suc, eqb, leb, ltb, length, get_or}
+use Rattle.std.specs.Prelude.{Bool, true, false, cond, ◌&&◌, List, [], ◌∷◌, ℕ, zero, suc, eqb, leb, ltb, length, get_or, Result, Ok, Err}
 use Rattle.laws.specs.Below.{all_below}
 use Rattle.laws.specs.Lowest.{lowest_below}
 use Rattle.refusal.specs.declared.Refusal.TheVariants.{Question}
 use Rattle.refusal.specs.Number.{Said, accepted, refused}
 use Rattle.table.specs.declared.Shape.{Shape}
-use Rattle.table.specs.declared.Checked.{Checked}
-use Rattle.table.specs.declared.Checked.TheVariants as table
 use Rattle.table.specs.Check.{check_of}
 use Rattle.reach.specs.Walk.{next_of}
 use Rattle.game.specs.declared.ForceAnswer.{ForceAnswer}
 use Rattle.game.specs.declared.ForceAnswer.TheVariants.{Reached, Wins, Loses, Refused}
 use Rattle.game.specs.Turns.{is_target, theirs}
+use Rattle.refusal.specs.declared.Refusal.{Refusal}
 
 -- The greatest number of moves.
 abbrev pub most_moves : ℕ
@@ -54,10 +53,10 @@ is_reached Loses = false
 is_reached (Refused _) = false
 
 -- Where the tests for causes 1 to 4 gave this answer: their refusal, or cause 19, or the answer of the first turn.
-abbrev pub when_checked : (file : List ℕ) (state : ℕ) (targets : List ℕ) (moves : ℕ) → Checked → ForceAnswer
-when_checked file state targets moves (table.Accepted shape) =
+abbrev pub when_checked : (file : List ℕ) (state : ℕ) (targets : List ℕ) (moves : ℕ) → Result Shape Refusal → ForceAnswer
+when_checked file state targets moves (Ok shape) =
     cond (question_fits shape state targets moves) (turn_of file shape targets moves state) (Refused Question)
-when_checked file state targets moves (table.Refused cause) = Refused cause
+when_checked file state targets moves (Err cause) = Refused cause
 
 -- Causes 1 to 4, on all entries, then cause 19, or the answer of the first turn.
 unfoldable pub force_of : (file : List ℕ) (state : ℕ) (targets : List ℕ) (moves : ℕ) → ForceAnswer

@@ -1,8 +1,7 @@
 -- What is proved of the call: which questions are turned away, and that a yes and a no are those of the strategies.
-use Rattle.std.specs.Prelude.{◌≡◌, ◌↔◌, ◌⊎◌, List, [], ◌∷◌, ℕ, ◌+◌, ◌-◌, ◌*◌, ◌<◌, ◌≤◌, length, get_or, take}
+use Rattle.std.specs.Prelude.{◌≡◌, ◌↔◌, ◌⊎◌, List, [], ◌∷◌, ℕ, ◌+◌, ◌-◌, ◌*◌, ◌<◌, ◌≤◌, length, get_or, take, Ok}
 use Rattle.refusal.specs.Number.{Said, accepted, refused_by}
 use Rattle.table.specs.declared.Shape.{Shape}
-use Rattle.table.specs.declared.Checked.TheVariants.{Accepted}
 use Rattle.table.specs.Check.{check_of, check_said}
 use Rattle.reach.specs.Walk.{next_of}
 use Rattle.game.specs.Force.{force_of, force_said}
@@ -35,7 +34,7 @@ pub record ForceRefused (file : List ℕ) (state : ℕ) (targets : List ℕ) (mo
   -- 1 to 4 exactly if check answers it, whatever is asked.
   pub table : (number : ℕ) → 1 ≤ number → number ≤ 4 → (force_said (force_of file state targets moves) ≡ refused_by number) ↔ (check_said (check_of file) ≡ refused_by number)
   -- 19 exactly if the table is accepted and the question is out of range.
-  pub question : (force_said (force_of file state targets moves) ≡ refused_by 19) ↔ ((shape : Shape) × (check_of file ≡ Accepted shape) × (Asked shape state targets moves → ⊥))
+  pub question : (force_said (force_of file state targets moves) ≡ refused_by 19) ↔ ((shape : Shape) × (check_of file ≡ Ok shape) × (Asked shape state targets moves → ⊥))
   -- No other number is answered.
   pub only : (number : ℕ) → 1 ≤ number → force_said (force_of file state targets moves) ≡ refused_by number → (number ≤ 4) ⊎ (number ≡ 19)
 
@@ -67,7 +66,7 @@ pub record ForceAnswered (file : List ℕ) (shape : Shape) (state : ℕ) (target
 -- Every question in range about an accepted table is answered so.
 abbrev pub AnsweredByStrategies : Type 0
 AnsweredByStrategies = (file : List ℕ) (shape : Shape) (state : ℕ) (targets : List ℕ) (moves : ℕ)
-    → check_of file ≡ Accepted shape → Asked shape state targets moves → ForceAnswered file shape state targets moves
+    → check_of file ≡ Ok shape → Asked shape state targets moves → ForceAnswered file shape state targets moves
 
 -- No operation both forces a target and lets the link avoid all, on any table.
 abbrev pub NotBoth : Type 0
@@ -84,7 +83,7 @@ StaysYes = (file : List ℕ) (state : ℕ) (targets : List ℕ) (moves : ℕ) �
 -- whatever it does, that leads to a target, or the same question from there, with its move less, is a yes; with no move left there
 -- is no yes, so that it is a target. So a planner may ask again for the next move.
 abbrev pub AskedAgain : Type 0
-AskedAgain = (file : List ℕ) (shape : Shape) (state : ℕ) (targets : List ℕ) (left operation : ℕ) → check_of file ≡ Accepted shape
+AskedAgain = (file : List ℕ) (shape : Shape) (state : ℕ) (targets : List ℕ) (left operation : ℕ) → check_of file ≡ Ok shape
     → force_said (force_of file state targets (left + 1)) ≡ accepted (1 ∷ operation ∷ [])
     → let met = next_of file shape state operation in
     Target targets met

@@ -9,7 +9,7 @@ ghost use Rattle.game.specs.Turns.{is_target, theirs};
 ghost use Rattle.game.specs.Force.{targets_fit, question_fits, turn_of, is_yes, force_of};
 
 use refusal::Refusal;
-use table::{Checked, Shape};
+use table::Shape;
 
 const MOST_MOVES: usize = 4;
 
@@ -139,8 +139,8 @@ pub fn force(file: &[u8], state: usize, targets: &[u8], moves: usize) -> ForceAn
 {
     let checked = table::check(file);
     match checked {
-        Checked::Refused(cause) => ForceAnswer::Refused(cause),
-        Checked::Accepted(shape) => {
+        Err(cause) => ForceAnswer::Refused(cause),
+        Ok(shape) => {
             if question_fits(shape, state, targets, moves) {
                 our_turn(file, shape, targets, moves, state as u16)
             } else {

@@ -1,4 +1,5 @@
 -- What the arrays of the search say of an accepted table.
+use Rattle.std.specs.Prelude.{Ok}
 use mathlib.Core.Path.{◌≡◌, sym, ap, subst, ◌∙◌}
 use mathlib.Core.Logic.{◌↔◌}
 use mathlib.Core.List.{List}
@@ -6,7 +7,6 @@ use Prim.Native.Nat.{ℕ, ◌+◌, ◌<◌}
 use native.Mathlib.Omega.{arith}
 use lib.ListN.{length, get_or}
 use Rattle.table.specs.declared.Shape.{Shape}
-use Rattle.table.specs.declared.Checked.TheVariants.{Accepted}
 use Rattle.table.specs.Layout.{most_states}
 use Rattle.table.specs.Check.{check_of}
 use Rattle.reach.specs.Walk.{Reachable}
@@ -18,7 +18,7 @@ use Rattle.reach.proofs.Search.{Closed}
 use Rattle.reach.proofs.Words.{order_words_take, order_words_at, number_words_at, number_listed, some_listed, into_both}
 use Rattle.reach.proofs.Ordered.{accepted_closed, reachable_listed, listed_reachable, order_once, reachable_below, first_meeting}
 
-module _ (file : List ℕ) (shape : Shape) (accepted : check_of file ≡ Accepted shape) where
+module _ (file : List ℕ) (shape : Shape) (accepted : check_of file ≡ Ok shape) where
   abbrev list : List ℕ
   list = order_of file shape
 

@@ -1,11 +1,11 @@
 -- The order of first meeting has the states that can be reached, and no other list is of its kind.
+use Rattle.std.specs.Prelude.{Ok}
 use mathlib.Core.Path.{◌≡◌, sym, ap, subst, ◌∙◌}
 use mathlib.Core.List.{List}
 use Prim.Native.Nat.{ℕ, ◌<◌}
 use native.Mathlib.Omega.{arith}
 use lib.ListN.{length, get_or}
 use Rattle.table.specs.declared.Shape.{Shape}
-use Rattle.table.specs.declared.Checked.TheVariants.{Accepted}
 use Rattle.table.specs.Layout.{most_states}
 use Rattle.table.specs.Check.{check_of}
 use Rattle.table.proofs.Accepted.{accepted_fitting, accepted_next}
@@ -17,7 +17,7 @@ use Rattle.reach.proofs.Search.{Closed, Searched}
 use Rattle.reach.proofs.Turns.{order_searched, order_few, order_closed}
 use Rattle.reach.proofs.OneList.{one_list}
 
-pub accepted_closed : (file : List ℕ) (shape : Shape) → check_of file ≡ Accepted shape → Closed file shape
+pub accepted_closed : (file : List ℕ) (shape : Shape) → check_of file ≡ Ok shape → Closed file shape
 accepted_closed file shape accepted =
     let fitting = accepted_fitting file shape accepted in
     record { few = fitting.few_states; start_below = fitting.start_below; next_below = accepted_next file shape accepted }

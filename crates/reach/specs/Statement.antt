@@ -1,8 +1,7 @@
 -- What is proved of the order of first meeting: it has the states that can be reached, and is the only list of its kind. And which
 -- operations are changing: those that move a state that can be reached.
-use Rattle.std.specs.Prelude.{◌≡◌, true, false, ◌↔◌, ◌⊎◌, ◌≢◌, List, ℕ, ◌+◌, ◌<◌, ◌≤◌, length, get_or, take}
+use Rattle.std.specs.Prelude.{◌≡◌, true, false, ◌↔◌, ◌⊎◌, ◌≢◌, List, ℕ, ◌+◌, ◌<◌, ◌≤◌, length, get_or, take, Ok}
 use Rattle.table.specs.declared.Shape.{Shape}
-use Rattle.table.specs.declared.Checked.TheVariants.{Accepted}
 use Rattle.table.specs.Layout.{most_states}
 use Rattle.table.specs.Check.{check_of}
 use Rattle.reach.specs.Walk.{next_of, Reachable}
@@ -46,7 +45,7 @@ pub record Ordered (file : List ℕ) (shape : Shape) : Type 0 where
   pub only : (other : List ℕ) → FirstMeeting file shape other → other ≡ order_of file shape
 
 abbrev pub AcceptedOrdered : Type 0
-AcceptedOrdered = (file : List ℕ) (shape : Shape) → check_of file ≡ Accepted shape → Ordered file shape
+AcceptedOrdered = (file : List ℕ) (shape : Shape) → check_of file ≡ Ok shape → Ordered file shape
 
 -- Two arrays and a count: the first array begins with that list, as long as the count says; the word of a state in the second
 -- one is 0 exactly if the state can't be reached, and else its place and one more.
@@ -58,7 +57,7 @@ pub record Found (file : List ℕ) (shape : Shape) (found : Reached) : Type 0 wh
 
 -- The search of an accepted table finds this, by value and in lent arrays of 256 words, whatever these held.
 abbrev pub AcceptedFound : Type 0
-AcceptedFound = (file : List ℕ) (shape : Shape) → check_of file ≡ Accepted shape
+AcceptedFound = (file : List ℕ) (shape : Shape) → check_of file ≡ Ok shape
     → Found file shape (reached_of file shape) × ((order number : List ℕ) → length order ≡ most_states → length number ≡ most_states → Found file shape (reached_into file shape order number))
 
 -- ---- Which operations are changing
@@ -80,7 +79,7 @@ pub record ChangingExactly (file : List ℕ) (shape : Shape) (operation : ℕ) :
 
 -- So it is in every accepted table.
 abbrev pub AcceptedStates : Type 0
-AcceptedStates = (file : List ℕ) (shape : Shape) → check_of file ≡ Accepted shape → ReachedStates file shape
+AcceptedStates = (file : List ℕ) (shape : Shape) → check_of file ≡ Ok shape → ReachedStates file shape
 
 abbrev pub AcceptedChanging : Type 0
-AcceptedChanging = (file : List ℕ) (shape : Shape) → check_of file ≡ Accepted shape → (operation : ℕ) → ChangingExactly file shape operation
+AcceptedChanging = (file : List ℕ) (shape : Shape) → check_of file ≡ Ok shape → (operation : ℕ) → ChangingExactly file shape operation

@@ -1,4 +1,5 @@
 -- What a record in form has, and when it is refused with 11.
+use Rattle.std.specs.Prelude.{Result, Ok, Err}
 use mathlib.Core.Path.{◌≡◌, refl, ap, sym, subst, ◌∙◌}
 use mathlib.Core.Bool.{Bool, true, false, ◌&&◌, ◌||◌, and-eq-true_iff}
 use mathlib.Core.Logic.{◌↔◌, ◌≢◌}
@@ -13,8 +14,6 @@ use Rattle.cells.specs.Form.{head_in_form, announcement_in_form}
 use Rattle.table.specs.declared.Shape.{Shape}
 use Rattle.records.specs.declared.record.Task.{Task}
 use Rattle.records.specs.declared.phase.Phase.{Phase}
-use Rattle.records.specs.declared.phase.PhaseRead.{PhaseRead}
-use Rattle.records.specs.declared.phase.PhaseRead.TheVariants.{Known, Refused}
 use Rattle.records.specs.Phase.{phase_of}
 use Rattle.records.specs.Record.{idle_in_form, names_task, saved_payload_in_form, numbers_in_form, words_in_form, pending_in_form, record_in_form, read_in_form, read_record, RecordFits}
 use Rattle.records.specs.Statement.{PendingPoints, PendingByPoint, IdleByPoint}
@@ -22,16 +21,16 @@ use Rattle.records.proofs.Phases.{WorksBelow, works, number_known, known_number,
 use Rattle.records.proofs.Saved.{idle_read}
 
 -- A record is read as a phase only if it is in form and its number is that phase's.
-parts : (fits : Bool) (read : PhaseRead) (f : Phase) → read_in_form fits read ≡ Known f → (fits ≡ true) × (read ≡ Known f)
-parts true (Known g) f e = (refl, e)
-parts false (Known g) f e = never cc
-parts fits (Refused reason) f e = never cc
+parts : (fits : Bool) (read : Result Phase Refusal) (f : Phase) → read_in_form fits read ≡ Ok f → (fits ≡ true) × (read ≡ Ok f)
+parts true (Ok g) f e = (refl, e)
+parts false (Ok g) f e = never cc
+parts fits (Err reason) f e = never cc
 
 -- It is refused with no other cause than 11, if a number that is no phase's is.
-record_cause : (fits : Bool) (read : PhaseRead) → ((c : Refusal) → read ≡ Refused c → c ≡ cause.Record) → (reason : Refusal) → read_in_form fits read ≡ Refused reason → reason ≡ cause.Record
-record_cause true (Known g) only reason e = never cc
-record_cause false (Known g) only reason e = cc
-record_cause fits (Refused c) only reason e = let same : c ≡ reason = cc in sym same ∙ only c refl
+record_cause : (fits : Bool) (read : Result Phase Refusal) → ((c : Refusal) → read ≡ Err c → c ≡ cause.Record) → (reason : Refusal) → read_in_form fits read ≡ Err reason → reason ≡ cause.Record
+record_cause true (Ok g) only reason e = never cc
+record_cause false (Ok g) only reason e = cc
+record_cause fits (Err c) only reason e = let same : c ≡ reason = cc in sym same ∙ only c refl
 
 -- The tests of the named task and of the payload, and what they say.
 names_point : (n k : ℕ) → (names_task n k ≡ true) ↔ (16 ≤ k → k % 8 < n)
@@ -52,11 +51,11 @@ payload_point m t = (
 )
 
 module _ (shape : Shape) (n c : ℕ) (t : Task) where
-  pub read_parts : (f : Phase) → read_record shape n c t ≡ Known f → (record_in_form shape n c t ≡ true) × (phase_of t.phase ≡ Known f)
+  pub read_parts : (f : Phase) → read_record shape n c t ≡ Ok f → (record_in_form shape n c t ≡ true) × (phase_of t.phase ≡ Ok f)
   unfolding read_record
   read_parts f e = parts (record_in_form shape n c t) (phase_of t.phase) f e
 
-  pub cause_read : (reason : Refusal) → read_record shape n c t ≡ Refused reason → reason ≡ cause.Record
+  pub cause_read : (reason : Refusal) → read_record shape n c t ≡ Err reason → reason ≡ cause.Record
   unfolding read_record
   cause_read = record_cause (record_in_form shape n c t) (phase_of t.phase) (refused_read t.phase)
 
@@ -123,7 +122,7 @@ module _ (shape : Shape) (n c : ℕ) (t : Task) where
   )
 
   -- A pending record that is read keeps its points, and its phase works for a task below n.
-  module _ (pending : t.phase ≢ 0) (f : Phase) (e : read_record shape n c t ≡ Known f) where
+  module _ (pending : t.phase ≢ 0) (f : Phase) (e : read_record shape n c t ≡ Ok f) where
     pub read_points : PendingPoints shape n c t
     read_points = (pending_by_point pending).0 (f, e)
 
@@ -131,9 +130,9 @@ module _ (shape : Shape) (n c : ℕ) (t : Task) where
     read_works = works n t.phase ((names_point n t.phase).1 read_points.named) f (read_parts f e).1
 
   -- A record that isn't in form is refused with 11, and no other is.
-  pub record_refused : (RecordFits shape n c t → ⊥) ↔ (read_record shape n c t ≡ Refused cause.Record)
+  pub record_refused : (RecordFits shape n c t → ⊥) ↔ (read_record shape n c t ≡ Err cause.Record)
   record_refused = (λ bad. by bad (read_record shape n c t) refl, λ e (f, d). never (cc (sym e ∙ d)))
     where
-      by : (RecordFits shape n c t → ⊥) → (read : PhaseRead) → read_record shape n c t ≡ read → read_record shape n c t ≡ Refused cause.Record
-      by bad (Known f) e = absurd (bad (f, e))
-      by bad (Refused reason) e = e ∙ ap Refused (cause_read reason e)
+      by : (RecordFits shape n c t → ⊥) → (read : Result Phase Refusal) → read_record shape n c t ≡ read → read_record shape n c t ≡ Err cause.Record
+      by bad (Ok f) e = absurd (bad (f, e))
+      by bad (Err reason) e = e ∙ ap Err (cause_read reason e)

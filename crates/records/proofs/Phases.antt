@@ -1,4 +1,5 @@
 -- Which number has which phase, and the task that a phase works for.
+use Rattle.std.specs.Prelude.{Result, Ok, Err}
 use mathlib.Core.Path.{◌≡◌, refl, sym, ap, subst, ◌∙◌}
 use mathlib.Core.Bool.{Bool, true, false, cond, ◌&&◌, ◌||◌, or-true, and-eq-true_iff}
 use mathlib.Core.Logic.{◌≢◌}
@@ -17,8 +18,6 @@ use Rattle.refusal.specs.declared.Refusal.{Refusal}
 use Rattle.refusal.specs.declared.Refusal.TheVariants as cause
 use Rattle.records.specs.declared.phase.Phase.{Phase}
 use Rattle.records.specs.declared.phase.Phase.TheVariants.{Idle, ReadOnly, Announce, Poll, LoadHead, LinkHead, LoadPriority, LoadOwn, LoadExit, LinkExit, ClearExit, ReleaseExit, Retract, ClearHead, ReloadClear, Apply, ReloadApply, LoadHelped, LinkHelped, Validate, HandOver, ReloadHandOver, Release, ReloadRelease}
-use Rattle.records.specs.declared.phase.PhaseRead.{PhaseRead}
-use Rattle.records.specs.declared.phase.PhaseRead.TheVariants.{Known, Refused}
 use Rattle.records.specs.Phase.{phase_number, range, phase_of}
 use Rattle.records.specs.Record.{names_task}
 
@@ -54,8 +53,8 @@ abbrev working : List (ℕ → Phase)
 working = Apply ∷ ReloadApply ∷ LoadHelped ∷ LinkHelped ∷ Validate ∷ HandOver ∷ ReloadHandOver ∷ Release ∷ ReloadRelease ∷ []
 
 -- Ranges of eight, one after the other.
-abbrev ranges : ℕ → ℕ → List (ℕ → Phase) → PhaseRead
-ranges k first [] = Refused cause.Record
+abbrev ranges : ℕ → ℕ → List (ℕ → Phase) → Result Phase Refusal
+ranges k first [] = Err cause.Record
 ranges k first (phase ∷ phases) = range k first phase (ranges k (first + 8) phases)
 
 -- From 15 on the single numbers are passed.
@@ -84,31 +83,31 @@ past_singles k h =
     other m l = ne_eqb k m (λ e. omega arith)
 
 -- One range: its numbers, and those past its end.
-module _ (k first : ℕ) (phase : ℕ → Phase) (other : PhaseRead) where
-  within : first ≤ k → k ≤ first + 7 → range k first phase other ≡ Known (phase (k - first))
+module _ (k first : ℕ) (phase : ℕ → Phase) (other : Result Phase Refusal) where
+  within : first ≤ k → k ≤ first + 7 → range k first phase other ≡ Ok (phase (k - first))
   within l h = simp (le-leb first k l, le-leb k (first + 7) h)
 
   above : first + 7 < k → range k first phase other ≡ other
   above h = simp (le-leb first k (omega arith), lt-leb k (first + 7) h)
 
 -- The number of task j in range m.
-in_ranges : (phases : List (ℕ → Phase)) (k first m j : ℕ) → k ≡ first + 8 * m + j → j < 8 → m < length phases → ranges k first phases ≡ Known (get_or phases m Apply j)
+in_ranges : (phases : List (ℕ → Phase)) (k first m j : ℕ) → k ≡ first + 8 * m + j → j < 8 → m < length phases → ranges k first phases ≡ Ok (get_or phases m Apply j)
 in_ranges [] k first m j e h l = absurd (omega arith)
 in_ranges (phase ∷ phases) k first zero j e h l =
     let place : k - first ≡ j = omega arith in
-    within k first phase _ (omega arith) (omega arith) ∙ ap (λ (x : ℕ). Known (phase x)) place
+    within k first phase _ (omega arith) (omega arith) ∙ ap (λ (x : ℕ). Ok (phase x)) place
 in_ranges (phase ∷ phases) k first (suc m) j e h l =
     above k first phase _ (omega arith) ∙ in_ranges phases k (first + 8) m j (omega arith) h (omega arith)
 
-past_ranges : (phases : List (ℕ → Phase)) (k first : ℕ) → first + 8 * length phases ≤ k → ranges k first phases ≡ Refused cause.Record
+past_ranges : (phases : List (ℕ → Phase)) (k first : ℕ) → first + 8 * length phases ≤ k → ranges k first phases ≡ Err cause.Record
 past_ranges [] k first h = refl
 past_ranges (phase ∷ phases) k first h = above k first phase _ (omega arith) ∙ past_ranges phases k (first + 8) (omega arith)
 
-worker : (m j : ℕ) → m < 9 → j < 8 → phase_of (16 + 8 * m + j) ≡ Known (get_or working m Apply j)
+worker : (m j : ℕ) → m < 9 → j < 8 → phase_of (16 + 8 * m + j) ≡ Ok (get_or working m Apply j)
 worker m j l h = past_singles (16 + 8 * m + j) (omega arith) ∙ in_ranges working (16 + 8 * m + j) 16 m j refl h l
 
 -- Every phase is the phase of its number.
-pub known : (f : Phase) → WorksBelow 8 f → phase_of (phase_number f) ≡ Known f
+pub known : (f : Phase) → WorksBelow 8 f → phase_of (phase_number f) ≡ Ok f
 unfolding phase_of
 known Idle h = refl
 known ReadOnly h = refl
@@ -136,17 +135,17 @@ known (Release j) h = worker 7 j (omega arith) h
 known (ReloadRelease j) h = worker 8 j (omega arith) h
 
 -- Past the last range there is no phase.
-unknown : (k : ℕ) → 87 < k → phase_of k ≡ Refused cause.Record
+unknown : (k : ℕ) → 87 < k → phase_of k ≡ Err cause.Record
 unknown k h = past_singles k (omega arith) ∙ past_ranges working k 16 (omega arith)
 
 -- What is read from the number k: a phase with that number, which works for a task below n, or the refusal with 11.
-record Named (n k : ℕ) (read : PhaseRead) : Type 0 where
-  works : (f : Phase) → read ≡ Known f → WorksBelow n f
-  number : (f : Phase) → read ≡ Known f → phase_number f ≡ k
-  refused : (c : Refusal) → read ≡ Refused c → c ≡ cause.Record
+record Named (n k : ℕ) (read : Result Phase Refusal) : Type 0 where
+  works : (f : Phase) → read ≡ Ok f → WorksBelow n f
+  number : (f : Phase) → read ≡ Ok f → phase_number f ≡ k
+  refused : (c : Refusal) → read ≡ Err c → c ≡ cause.Record
 
 module _ {n k : ℕ} where
-  choose : (b : Bool) (f : Phase) (other : PhaseRead) → (b ≡ true → WorksBelow n f × (phase_number f ≡ k)) → Named n k other → Named n k (cond b (Known f) other)
+  choose : (b : Bool) (f : Phase) (other : Result Phase Refusal) → (b ≡ true → WorksBelow n f × (phase_number f ≡ k)) → Named n k other → Named n k (cond b (Ok f) other)
   choose true f other w r = record {
     works = λ g e. let same : f ≡ g = cc in subst (λ (x : Phase). WorksBelow n x) same (w refl).0;
     number = λ g e. let same : f ≡ g = cc in ap phase_number (sym same) ∙ (w refl).1;
@@ -154,7 +153,7 @@ module _ {n k : ℕ} where
   }
   choose false f other w r = r
 
-  none : Named n k (Refused cause.Record)
+  none : Named n k (Err cause.Record)
   none = record { works = λ g e. never cc; number = λ g e. never cc; refused = λ c e. cc }
 
 module _ (n k : ℕ) (h : names_task n k ≡ true) where
@@ -199,7 +198,7 @@ module _ (n k : ℕ) (h : names_task n k ≡ true) where
       (choose (leb 80 k && leb k 87) (ReloadRelease (k - 80)) _ (inside 80 (omega arith) (omega arith)) none))))))))))))))))))))))))
 
   -- A number that names a task below n is read as a phase that works for a task below n.
-  pub works : (f : Phase) → phase_of k ≡ Known f → WorksBelow n f
+  pub works : (f : Phase) → phase_of k ≡ Ok f → WorksBelow n f
   works = every.works
 
 -- What is read is the phase with that number, or the refusal with 11.
@@ -208,29 +207,29 @@ module _ (k : ℕ) where
   unfolding names_task
   eight = rw (lt-ltb (k % 8) 8 (mod-lt k (omega arith))) (or-true (ltb k 16))
 
-  pub number_read : (f : Phase) → phase_of k ≡ Known f → phase_number f ≡ k
+  pub number_read : (f : Phase) → phase_of k ≡ Ok f → phase_number f ≡ k
   number_read = (every 8 k eight).number
 
-  pub refused_read : (c : Refusal) → phase_of k ≡ Refused c → c ≡ cause.Record
+  pub refused_read : (c : Refusal) → phase_of k ≡ Err c → c ≡ cause.Record
   refused_read = (every 8 k eight).refused
 
 -- The numbers of phases are those up to 87 but 15.
-is_known : PhaseRead → Bool
-is_known (Known f) = true
-is_known (Refused c) = false
+is_known : Result Phase Refusal → Bool
+is_known (Ok f) = true
+is_known (Err c) = false
 
 numbered : ℕ → Bool
 numbered k = is_known (phase_of k) || eqb k 15
 
-pub number_known : (k : ℕ) → k ≤ 87 → k ≢ 15 → (f : Phase) × (phase_of k ≡ Known f)
+pub number_known : (k : ℕ) → k ≤ 87 → k ≢ 15 → (f : Phase) × (phase_of k ≡ Ok f)
 unfolding is_known numbered phase_of all_below
 number_known k l other = by (phase_of k) refl (all_at 88 numbered refl k (omega arith))
   where
-    by : (read : PhaseRead) → phase_of k ≡ read → is_known (phase_of k) || eqb k 15 ≡ true → (f : Phase) × (phase_of k ≡ Known f)
-    by (Known f) e t = (f, e)
-    by (Refused c) e t = clash (rw e at t) (ne_eqb k 15 other)
+    by : (read : Result Phase Refusal) → phase_of k ≡ read → is_known (phase_of k) || eqb k 15 ≡ true → (f : Phase) × (phase_of k ≡ Ok f)
+    by (Ok f) e t = (f, e)
+    by (Err c) e t = clash (rw e at t) (ne_eqb k 15 other)
 
-pub known_number : (k : ℕ) (f : Phase) → phase_of k ≡ Known f → (k ≤ 87) × (k ≢ 15)
+pub known_number : (k : ℕ) (f : Phase) → phase_of k ≡ Ok f → (k ≤ 87) × (k ≢ 15)
 unfolding phase_of
 known_number k f e = (low (leb k 87) refl, λ z. never (cc (sym (ap phase_of z) ∙ e)))
   where

@@ -1,4 +1,5 @@
 -- Records that are read back: an idle one, and one that has saved in its phase what that phase's form allows.
+use Rattle.std.specs.Prelude.{Ok}
 use mathlib.Core.Path.{◌≡◌, refl}
 use mathlib.Core.Bool.{Bool, true, false, cond, ◌&&◌, or-true}
 use Prim.Native.Nat.{ℕ, ◌+◌, ◌*◌, ◌%◌, ◌<◌, ◌≤◌}
@@ -11,14 +12,13 @@ use Rattle.cells.proofs.Images.{no_announcement}
 use Rattle.table.specs.declared.Shape.{Shape}
 use Rattle.records.specs.declared.phase.Phase.{Phase}
 use Rattle.records.specs.declared.phase.Phase.TheVariants.{Idle, Apply, ReloadApply, LoadHelped, LinkHelped, Validate, HandOver, ReloadHandOver, Release, ReloadRelease}
-use Rattle.records.specs.declared.phase.PhaseRead.TheVariants.{Known}
 use Rattle.records.specs.Phase.{phase_number, phase_of}
 use Rattle.records.specs.Record.{idle_task, idle_in_form, names_task, saved_payload_in_form, numbers_in_form, words_in_form, pending_in_form, record_in_form, read_record}
 use Rattle.records.proofs.Phases.{WorksBelow, known}
 
 -- A phase of a pending operation, the payload, and the head and the announcement that it has saved, in form.
 pub record Saved (shape : Shape) (n : ℕ) (f : Phase) (payload head announcement : ℕ) : Type 0 where
-  pub read : phase_of (phase_number f) ≡ Known f
+  pub read : phase_of (phase_number f) ≡ Ok f
   pub pending : eqb (phase_number f) 0 ≡ false
   pub names : names_task n (phase_number f) ≡ true
   pub ranged : cond (leb 16 (phase_number f) && leb (phase_number f) 31) (ltb payload shape.operations) true ≡ true
@@ -82,12 +82,12 @@ module _ (shape : Shape) (n : ℕ) where
 
   -- The record that has saved this, with operation, priority and steps in range, is read as its phase.
   pub saved_read : {f : Phase} {v h a : ℕ} → Saved shape n f v h a → (o p k c : ℕ) → o < shape.operations → p < n → k < c
-      → read_record shape n c (record { head = h; announcement = a; payload = v; steps = k; operation = o; priority = p; phase = phase_number f }) ≡ Known f
+      → read_record shape n c (record { head = h; announcement = a; payload = v; steps = k; operation = o; priority = p; phase = phase_number f }) ≡ Ok f
   unfolding read_record record_in_form pending_in_form numbers_in_form words_in_form saved_payload_in_form
   saved_read s o p k c operation priority steps =
       simp (s.read, s.pending, s.names, lt-ltb _ _ operation, lt-ltb _ _ priority, lt-ltb _ _ steps, s.ranged, s.head_formed, s.announcement_formed)
 
   -- An idle record is read as idle.
-  pub idle_read : (c p : ℕ) → p < n → read_record shape n c (idle_task p) ≡ Known Idle
+  pub idle_read : (c p : ℕ) → p < n → read_record shape n c (idle_task p) ≡ Ok Idle
   unfolding read_record record_in_form idle_in_form phase_of
   idle_read c p below = rw (lt-ltb p n below)

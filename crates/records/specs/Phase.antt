@@ -1,10 +1,9 @@
 -- The phase table: the number of each phase.
-use Rattle.std.specs.Prelude.{cond, ◌&&◌, ℕ, ◌+◌, ◌-◌, eqb, leb}
+use Rattle.std.specs.Prelude.{cond, ◌&&◌, ℕ, ◌+◌, ◌-◌, eqb, leb, Result, Ok, Err}
 use Rattle.refusal.specs.declared.Refusal.TheVariants as cause
 use Rattle.records.specs.declared.phase.Phase.{Phase}
 use Rattle.records.specs.declared.phase.Phase.TheVariants.{Idle, ReadOnly, Announce, Poll, LoadHead, LinkHead, LoadPriority, LoadOwn, LoadExit, LinkExit, ClearExit, ReleaseExit, Retract, ClearHead, ReloadClear, Apply, ReloadApply, LoadHelped, LinkHelped, Validate, HandOver, ReloadHandOver, Release, ReloadRelease}
-use Rattle.records.specs.declared.phase.PhaseRead.{PhaseRead}
-use Rattle.records.specs.declared.phase.PhaseRead.TheVariants.{Known, Refused}
+use Rattle.refusal.specs.declared.Refusal.{Refusal}
 
 -- The number of a phase: those that work for a task j are ranges of eight.
 abbrev pub phase_number : Phase → ℕ
@@ -34,15 +33,15 @@ phase_number (Release j) = 72 + j
 phase_number (ReloadRelease j) = 80 + j
 
 -- The phase of a number, if it is that number; else the next guess.
-abbrev pub just : ℕ → ℕ → Phase → PhaseRead → PhaseRead
-just k number phase other = cond (eqb k number) (Known phase) other
+abbrev pub just : ℕ → ℕ → Phase → Result Phase Refusal → Result Phase Refusal
+just k number phase other = cond (eqb k number) (Ok phase) other
 
 -- The phase of a number, if it is in the range of eight that starts there; else the next guess.
-abbrev pub range : ℕ → ℕ → (ℕ → Phase) → PhaseRead → PhaseRead
-range k first phase other = cond (leb first k && leb k (first + 7)) (Known (phase (k - first))) other
+abbrev pub range : ℕ → ℕ → (ℕ → Phase) → Result Phase Refusal → Result Phase Refusal
+range k first phase other = cond (leb first k && leb k (first + 7)) (Ok (phase (k - first))) other
 
 -- The phase of a number; a number of no phase is refused with 11.
-unfoldable pub phase_of : ℕ → PhaseRead
+unfoldable pub phase_of : ℕ → Result Phase Refusal
 phase_of k =
     just k 0 Idle
     (just k 1 ReadOnly
@@ -67,4 +66,4 @@ phase_of k =
     (range k 56 HandOver
     (range k 64 ReloadHandOver
     (range k 72 Release
-    (range k 80 ReloadRelease (Refused cause.Record))))))))))))))))))))))))
+    (range k 80 ReloadRelease (Err cause.Record))))))))))))))))))))))))

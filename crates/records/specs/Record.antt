@@ -1,13 +1,12 @@
 -- The forms of a task's record, with a table's shape, n tasks and their ceiling. docs/RECORDS.md says the same in words.
-use Rattle.std.specs.Prelude.{◌≡◌, Bool, true, cond, ◌&&◌, ◌||◌, ℕ, ◌%◌, eqb, leb, ltb}
+use Rattle.std.specs.Prelude.{◌≡◌, Bool, true, cond, ◌&&◌, ◌||◌, ℕ, ◌%◌, eqb, leb, ltb, Result, Ok, Err}
 use Rattle.refusal.specs.declared.Refusal.TheVariants as cause
 use Rattle.cells.specs.Form.{head_in_form, announcement_in_form}
 use Rattle.table.specs.declared.Shape.{Shape}
 use Rattle.records.specs.declared.record.Task.{Task}
 use Rattle.records.specs.declared.phase.Phase.{Phase}
-use Rattle.records.specs.declared.phase.PhaseRead.{PhaseRead}
-use Rattle.records.specs.declared.phase.PhaseRead.TheVariants.{Known, Refused}
 use Rattle.records.specs.Phase.{phase_of}
+use Rattle.refusal.specs.declared.Refusal.{Refusal}
 
 -- An idle task keeps its priority alone.
 abbrev pub idle_task : ℕ → Task
@@ -45,13 +44,13 @@ unfoldable pub record_in_form : Shape → (n ceiling : ℕ) → Task → Bool
 record_in_form shape n ceiling t = cond (eqb t.phase 0) (idle_in_form n t) (pending_in_form shape n ceiling t)
 
 -- The phase of a record, if its number is that of a phase and the record is in form; else the record is refused with 11.
-abbrev pub read_in_form : Bool → PhaseRead → PhaseRead
-read_in_form fits (Known phase) = cond fits (Known phase) (Refused cause.Record)
-read_in_form fits (Refused reason) = Refused reason
+abbrev pub read_in_form : Bool → Result Phase Refusal → Result Phase Refusal
+read_in_form fits (Ok phase) = cond fits (Ok phase) (Err cause.Record)
+read_in_form fits (Err reason) = Err reason
 
-unfoldable pub read_record : Shape → (n ceiling : ℕ) → Task → PhaseRead
+unfoldable pub read_record : Shape → (n ceiling : ℕ) → Task → Result Phase Refusal
 read_record shape n ceiling t = read_in_form (record_in_form shape n ceiling t) (phase_of t.phase)
 
 -- A record in the forms of docs/RECORDS.md: its number is a phase, and its fields have that phase's form. It isn't refused with 11.
 abbrev pub RecordFits : Shape → (n ceiling : ℕ) → Task → Type 0
-RecordFits shape n ceiling t = (f : Phase) × (read_record shape n ceiling t ≡ Known f)
+RecordFits shape n ceiling t = (f : Phase) × (read_record shape n ceiling t ≡ Ok f)

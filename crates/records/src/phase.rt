@@ -33,44 +33,41 @@ pub enum Phase {
     ReloadRelease(u8),
 }
 
-// A number read as a phase.
-#[derive(Clone, Copy)]
-pub enum PhaseRead {
-    Known(Phase),
-    Refused(Refusal),
-}
-
 // The phase of a number. The retry phases are ranges of eight, a number for each task; another number is refused with 11.
-#[tactic(auto, unfolding(crate::specs::Phase::phase_of))]
-pub fn read_phase(number: u32) -> PhaseRead
-    ensures { result ≡ phase_of number }
-{
-    match number {
-        0 => PhaseRead::Known(Phase::Idle),
-        1 => PhaseRead::Known(Phase::ReadOnly),
-        2 => PhaseRead::Known(Phase::Announce),
-        3 => PhaseRead::Known(Phase::Poll),
-        4 => PhaseRead::Known(Phase::LoadHead),
-        5 => PhaseRead::Known(Phase::LinkHead),
-        6 => PhaseRead::Known(Phase::LoadPriority),
-        7 => PhaseRead::Known(Phase::LoadOwn),
-        8 => PhaseRead::Known(Phase::LoadExit),
-        9 => PhaseRead::Known(Phase::LinkExit),
-        10 => PhaseRead::Known(Phase::ClearExit),
-        11 => PhaseRead::Known(Phase::ReleaseExit),
-        12 => PhaseRead::Known(Phase::Retract),
-        13 => PhaseRead::Known(Phase::ClearHead),
-        14 => PhaseRead::Known(Phase::ReloadClear),
-        16..=23 => PhaseRead::Known(Phase::Apply((number - 16) as u8)),
-        24..=31 => PhaseRead::Known(Phase::ReloadApply((number - 24) as u8)),
-        32..=39 => PhaseRead::Known(Phase::LoadHelped((number - 32) as u8)),
-        40..=47 => PhaseRead::Known(Phase::LinkHelped((number - 40) as u8)),
-        48..=55 => PhaseRead::Known(Phase::Validate((number - 48) as u8)),
-        56..=63 => PhaseRead::Known(Phase::HandOver((number - 56) as u8)),
-        64..=71 => PhaseRead::Known(Phase::ReloadHandOver((number - 64) as u8)),
-        72..=79 => PhaseRead::Known(Phase::Release((number - 72) as u8)),
-        80..=87 => PhaseRead::Known(Phase::ReloadRelease((number - 80) as u8)),
-        _ => PhaseRead::Refused(Refusal::Record),
+impl TryFrom<u32> for Phase {
+    type Error = Refusal;
+
+    ghost try_from_gives = { λ number read. read ≡ phase_of number };
+
+    #[tactic(auto, unfolding(crate::specs::Phase::phase_of))]
+    fn try_from(number: u32) -> Result<Phase, Refusal> {
+        match number {
+            0 => Ok(Phase::Idle),
+            1 => Ok(Phase::ReadOnly),
+            2 => Ok(Phase::Announce),
+            3 => Ok(Phase::Poll),
+            4 => Ok(Phase::LoadHead),
+            5 => Ok(Phase::LinkHead),
+            6 => Ok(Phase::LoadPriority),
+            7 => Ok(Phase::LoadOwn),
+            8 => Ok(Phase::LoadExit),
+            9 => Ok(Phase::LinkExit),
+            10 => Ok(Phase::ClearExit),
+            11 => Ok(Phase::ReleaseExit),
+            12 => Ok(Phase::Retract),
+            13 => Ok(Phase::ClearHead),
+            14 => Ok(Phase::ReloadClear),
+            16..=23 => Ok(Phase::Apply((number - 16) as u8)),
+            24..=31 => Ok(Phase::ReloadApply((number - 24) as u8)),
+            32..=39 => Ok(Phase::LoadHelped((number - 32) as u8)),
+            40..=47 => Ok(Phase::LinkHelped((number - 40) as u8)),
+            48..=55 => Ok(Phase::Validate((number - 48) as u8)),
+            56..=63 => Ok(Phase::HandOver((number - 56) as u8)),
+            64..=71 => Ok(Phase::ReloadHandOver((number - 64) as u8)),
+            72..=79 => Ok(Phase::Release((number - 72) as u8)),
+            80..=87 => Ok(Phase::ReloadRelease((number - 80) as u8)),
+            _ => Err(Refusal::Record),
+        }
     }
 }
 

@@ -2,8 +2,7 @@
 ghost use Rattle.std.specs.Prelude.{◌≡◌};
 ghost use Rattle.records.specs.Record.{idle_task, idle_in_form, names_task, saved_payload_in_form, numbers_in_form, words_in_form, record_in_form, read_record};
 
-use crate::phase;
-use crate::phase::PhaseRead;
+use crate::phase::Phase;
 use cells::form;
 use refusal::Refusal;
 use table::Shape;
@@ -115,18 +114,13 @@ fn record_in_form(shape: Shape, tasks: usize, ceiling: u32, own: Task) -> bool
 
 // The phase of a record; one that is out of form is refused with 11.
 #[tactic(auto, unfolding(crate::specs::Record::read_record))]
-pub fn read_record(shape: Shape, tasks: usize, ceiling: u32, own: Task) -> PhaseRead
+pub fn read_record(shape: Shape, tasks: usize, ceiling: u32, own: Task) -> Result<Phase, Refusal>
     ensures { result ≡ read_record shape tasks ceiling own }
 {
-    let read = phase::read_phase(own.phase);
-    match read {
-        PhaseRead::Refused(cause) => PhaseRead::Refused(cause),
-        PhaseRead::Known(phase) => {
-            if record_in_form(shape, tasks, ceiling, own) {
-                PhaseRead::Known(phase)
-            } else {
-                PhaseRead::Refused(Refusal::Record)
-            }
-        }
+    let phase = Phase::try_from(own.phase)?;
+    if record_in_form(shape, tasks, ceiling, own) {
+        Ok(phase)
+    } else {
+        Err(Refusal::Record)
     }
 }

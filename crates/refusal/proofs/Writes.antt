@@ -1,4 +1,5 @@
 -- A call that writes into lent room keeps to its statement.
+use Rattle.std.specs.Prelude.{Ok}
 use mathlib.Core.Path.{◌≡◌, refl, sym, ap, subst, ◌∙◌}
 use mathlib.Core.List.{List, [], ◌∷◌, ◌++◌}
 use Prim.Native.Nat.{ℕ, ◌<◌, ◌≤◌}
@@ -8,7 +9,6 @@ use borrow.Author.Tests.{le-leb, lt-leb}
 use lib.ListN.{length, drop, length-append, length-drop}
 use lib.Seq.{take_at, drop_at}
 use Rattle.refusal.specs.declared.Refusal.TheVariants.{Room}
-use Rattle.refusal.specs.declared.Written.TheVariants.{Length}
 use Rattle.refusal.specs.Number.{accepted}
 use Rattle.refusal.specs.Written.{not_written, written_into}
 use Rattle.refusal.specs.Statement.{Writes}
@@ -18,7 +18,7 @@ module _ (new room : List ℕ) where
   pub not_written_lem : length room < length new → written_into new room ≡ not_written Room room
   not_written_lem short = simp (lt-leb _ _ short)
 
-  pub fully_written : length new ≤ length room → written_into new room ≡ record { answer = Length (length new); room = new ++ drop (length new) room }
+  pub fully_written : length new ≤ length room → written_into new room ≡ record { answer = Ok (length new); room = new ++ drop (length new) room }
   fully_written fits = simp (le-leb _ _ fits)
 
   too_short : length room < length new → Writes new room (not_written Room room)
@@ -32,7 +32,7 @@ module _ (new room : List ℕ) where
         same_length = refl;
       }
 
-  fitting : length new ≤ length room → Writes new room (record { answer = Length (length new); room = new ++ drop (length new) room })
+  fitting : length new ≤ length room → Writes new room (record { answer = Ok (length new); room = new ++ drop (length new) room })
   fitting fits =
       record {
         no_room = (λ e. absurd (numbers_apart e (λ z. omega arith)), λ short. absurd (omega arith));

@@ -1,5 +1,4 @@
-// The causes for which a call is not served, the number of each, and what a call that writes into lent room answers:
-// docs/FORMATS.md, "When a call is not served".
+// The causes for which a call is not served, and the number of each: docs/FORMATS.md, "When a call is not served".
 #![tactic(auto)]
 
 ghost use Rattle.std.specs.Prelude.{◌≡◌};
@@ -45,14 +44,6 @@ pub enum Refusal {
     Window,
     // Force: the moves, the state, or the targets' length or a byte of them are out of range.
     Question,
-}
-
-// What a call that writes a file or a list into lent room answers.
-#[derive(Clone, Copy)]
-pub enum Written {
-    // The length of what was written, in bytes or entries.
-    Length(u32),
-    Refused(Refusal),
 }
 
 // The number that is returned for a cause.

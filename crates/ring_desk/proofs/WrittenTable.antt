@@ -1,4 +1,5 @@
 -- What the call that writes the table answers and leaves: case by case, and as its statement says it.
+use Rattle.std.specs.Prelude.{Ok}
 use mathlib.Core.Path.{◌≡◌, refl, sym, ap, subst, ◌∙◌}
 use mathlib.Core.Bool.{Bool, true, false}
 use mathlib.Core.List.{List, [], ◌∷◌, ◌++◌}
@@ -7,7 +8,6 @@ use native.Mathlib.Decide.{dec_lt}
 use native.Mathlib.Omega.{arith}
 use lib.ListN.{length, drop}
 use Rattle.refusal.specs.declared.Refusal.TheVariants.{Rings, Room}
-use Rattle.refusal.specs.declared.Written.TheVariants.{Length}
 use Rattle.refusal.specs.Number.{accepted, refused_by}
 use Rattle.refusal.specs.Written.{Writing, written_said, not_written, written_into}
 use Rattle.refusal.specs.Statement.{Writes}
@@ -38,11 +38,11 @@ module _ (rings room : List ℕ) where
     table_no_room short = table_in_range fits ∙ not_written_lem (desk_file (ring_count rings)) room (omega (arith, file_long (ring_count rings)))
 
     pub table_written : 6 * ring_count rings + 22 ≤ length room
-        → table_of rings room ≡ record { answer = Length (6 * ring_count rings + 22); room = desk_file (ring_count rings) ++ drop (6 * ring_count rings + 22) room }
+        → table_of rings room ≡ record { answer = Ok (6 * ring_count rings + 22); room = desk_file (ring_count rings) ++ drop (6 * ring_count rings + 22) room }
     table_written enough =
         table_in_range fits
         ∙ fully_written (desk_file (ring_count rings)) room (omega (arith, file_long (ring_count rings)))
-        ∙ ap (λ (n : ℕ). record { answer = Length n; room = desk_file (ring_count rings) ++ drop n room }) (file_long (ring_count rings))
+        ∙ ap (λ (n : ℕ). record { answer = Ok n; room = desk_file (ring_count rings) ++ drop n room }) (file_long (ring_count rings))
 
 -- ---- The statement
 

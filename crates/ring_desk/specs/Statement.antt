@@ -1,11 +1,10 @@
 -- What is proved of the ring desk's calls, as types over their definitions: what the list must be, who owns a chainage, what is
 -- written, and what the table says.
-use Rattle.std.specs.Prelude.{◌≡◌, true, false, ◌↔◌, ◌⊎◌, List, [], ◌∷◌, ℕ, ◌+◌, ◌-◌, ◌*◌, ◌/◌, ◌<◌, ◌≤◌, length, get_or}
+use Rattle.std.specs.Prelude.{◌≡◌, true, false, ◌↔◌, ◌⊎◌, List, [], ◌∷◌, ℕ, ◌+◌, ◌-◌, ◌*◌, ◌/◌, ◌<◌, ◌≤◌, length, get_or, Ok}
 use Rattle.refusal.specs.Number.{accepted, refused_by}
 use Rattle.refusal.specs.Written.{written_said}
 use Rattle.refusal.specs.Statement.{Writes}
 use Rattle.table.specs.declared.Shape.{Shape}
-use Rattle.table.specs.declared.Checked.TheVariants.{Accepted}
 use Rattle.table.specs.File.{Bytes}
 use Rattle.table.specs.Check.{check_of}
 use Rattle.table.specs.Entries.{entry_of}
@@ -99,7 +98,7 @@ drive_shape rings = record { offset = 0; states = rings + 1; operations = 3; sta
 pub record DriveTable (rings : ℕ) : Type 0 where
   pub long : length (desk_file rings) ≡ 6 * rings + 22
   pub bytes : Bytes (desk_file rings)
-  pub accepts : check_of (desk_file rings) ≡ Accepted (drive_shape rings)
+  pub accepts : check_of (desk_file rings) ≡ Ok (drive_shape rings)
   pub counts : (built operation : ℕ) → built ≤ rings → operation < 3
       → Counts rings built operation (entry_of (desk_file rings) (drive_shape rings) built operation).next
   pub counts_once : (built operation one other : ℕ) → Counts rings built operation one → Counts rings built operation other → one ≡ other

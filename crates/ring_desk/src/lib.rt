@@ -10,7 +10,7 @@ ghost use Rattle.ring_desk.specs.Rings.{most_rings, ring_count, length_of, kind_
 ghost use Rattle.ring_desk.specs.Owner.{owns_between, first_owner, owner_of};
 ghost use Rattle.ring_desk.specs.Table.{desk_operations, next_built, desk_entry, desk_shape, desk_file, table_of};
 
-use refusal::{Refusal, Written};
+use refusal::Refusal;
 use table::{Entry, Shape};
 
 const MOST_RINGS: usize = 255;
@@ -215,11 +215,11 @@ fn write_file(room: &mut [u8], rings: u16, shape: Shape)
 
 // Writes the object table of the drive at the room's start, and answers its length in bytes.
 #[tactic(auto, using(laws::proofs::Lists::written_over, crate::proofs::Ranges::fits_range, crate::proofs::WrittenTable::file_long, crate::proofs::WrittenTable::table_no_range, crate::proofs::WrittenTable::table_no_room, crate::proofs::WrittenTable::table_written))]
-pub fn write_table(rings: &[u32], room: &mut [u8]) -> Written
+pub fn write_table(rings: &[u32], room: &mut [u8]) -> Result<u32, Refusal>
     ensures { (room.new ≡ (table_of rings.now room.old).room) × (result ≡ (table_of rings.now room.old).answer) }
 {
     if !rings_fit(rings) {
-        return Written::Refused(Refusal::Rings);
+        return Err(Refusal::Rings);
     }
     let count = (rings.len() / 2) as u16;
     let shape = Shape {
@@ -230,8 +230,8 @@ pub fn write_table(rings: &[u32], room: &mut [u8]) -> Written
     };
     let length = table::file_length(shape);
     if room.len() < length {
-        return Written::Refused(Refusal::Room);
+        return Err(Refusal::Room);
     }
     write_file(room, count, shape);
-    Written::Length(length as u32)
+    Ok(length as u32)
 }

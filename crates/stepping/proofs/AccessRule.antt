@@ -5,6 +5,7 @@ use Prim.Native.Nat.{ℕ}
 use Rattle.records.specs.declared.record.Task.{Task}
 use Rattle.transition.specs.declared.access.Next.{Next}
 use Rattle.transition.specs.Transition.{next_of}
+use Rattle.stepping.specs.declared.call.Admission.{Admission}
 use Rattle.stepping.specs.Step.{perform_of, advance_of, answer_of, TaskOutcome}
 use Rattle.stepping.specs.Call.{step_task}
 use Rattle.stepping.specs.Access.{access_of, given_back}
@@ -30,8 +31,9 @@ follows_result file cells others n i t u v e =
     let p = passed file cells n i t u in
     let q = passed file others n i t v in
     let admitted = sym p.admits ∙ q.admits in
-    let high : p.ceiling ≡ q.ceiling = cc admitted in
-    let shape : p.shape ≡ q.shape = cc admitted in
+    let both : ◌≡◌ {A = Admission} (record { ceiling = p.ceiling; shape = p.shape }) (record { ceiling = q.ceiling; shape = q.shape }) = cc admitted in
+    let high : p.ceiling ≡ q.ceiling = ap (λ (a : Admission). a.ceiling) both in
+    let shape : p.shape ≡ q.shape = ap (λ (a : Admission). a.shape) both in
     let phase : p.phase ≡ q.phase = cc (p.read, q.read, high, shape) in
     let same : following file cells n i t p ≡ following file others n i t q = cc (shape, phase, e) in
     let one = follows file cells n i t p in

@@ -1,4 +1,5 @@
 -- Calls that stand between those of a run: refused ones, and those on other memory, leave the run as it is.
+use Rattle.std.specs.Prelude.{Result, Ok, Err, ⊤}
 use mathlib.Core.Path.{◌≡◌, refl, sym, ◌∙◌, ap}
 use mathlib.Core.List.{List, ◌∷◌, map}
 use Prim.Native.Nat.{ℕ}
@@ -7,18 +8,14 @@ use Rattle.laws.proofs.Clash.{never}
 use Rattle.refusal.specs.declared.Refusal.{Refusal}
 use Rattle.machine.specs.Calls.{Call, Answer, Event}
 use Rattle.records.specs.declared.record.Task.{Task}
-use Rattle.stepping.specs.declared.answer.StepAnswer as declared
-use Rattle.stepping.specs.declared.answer.StepAnswer.TheVariants as step
-use Rattle.stepping.specs.declared.answer.BeginAnswer.{BeginAnswer}
-use Rattle.stepping.specs.declared.answer.BeginAnswer.TheVariants as begin
-use Rattle.stepping.specs.declared.answer.StartAnswer.{StartAnswer}
-use Rattle.stepping.specs.declared.answer.StartAnswer.TheVariants as start
 use Rattle.stepping.specs.Call.{begin_said, step_said, StartOutcome}
 use Rattle.stepping.specs.Runs.{Store, serve_of, run_of, history_of}
 use Rattle.stepping.specs.Lent as lent
 use Rattle.stepping.specs.Lent.{Memory, Places, store_at, LentCall, Says, start_answered, serve_lent, OfRun, IsRefused, Apart, done, own, refused, apart, SameRun}
 use Rattle.stepping.specs.Statement.{Between, OpensNext}
 use Rattle.stepping.proofs.Refused.{refused_start, refused_begin_row, refused_step_row}
+use Rattle.stepping.specs.declared.answer.Progress.{Progress}
+use Rattle.stepping.specs.declared.answer.Progress.TheVariants as progress
 
 -- What a run hands on, from two equations.
 pub store_same : {cells cells' : List ℕ} {row row' : List Task} → cells ≡ cells' → row ≡ row' → ◌≡◌ {A = Store} (record { cells = cells; row = row }) (record { cells = cells'; row = row' })
@@ -27,18 +24,18 @@ store_same e f k = record { cells = e k; row = f k }
 -- ---- One call
 
 -- The cause of an answer that is refused.
-start_cause : (a : StartAnswer) → IsRefused (start_answered a) → (c : Refusal) × (a ≡ start.Refused c)
-start_cause start.Started r = absurd r
-start_cause (start.Refused c) r = (c, refl)
+start_cause : (a : Result ⊤ Refusal) → IsRefused (start_answered a) → (c : Refusal) × (a ≡ Err c)
+start_cause (Ok tt) r = absurd r
+start_cause (Err c) r = (c, refl)
 
-begin_cause : (a : BeginAnswer) → IsRefused (Says (begin_said a)) → (c : Refusal) × (a ≡ begin.Refused c)
-begin_cause begin.Begun r = absurd r
-begin_cause (begin.Refused c) r = (c, refl)
+begin_cause : (a : Result ⊤ Refusal) → IsRefused (Says (begin_said a)) → (c : Refusal) × (a ≡ Err c)
+begin_cause (Ok tt) r = absurd r
+begin_cause (Err c) r = (c, refl)
 
-step_cause : (a : declared.StepAnswer) → IsRefused (Says (step_said a)) → (c : Refusal) × (a ≡ step.Refused c)
-step_cause step.Running r = absurd r
-step_cause (step.Ended x v k) r = absurd r
-step_cause (step.Refused c) r = (c, refl)
+step_cause : (a : Result Progress Refusal) → IsRefused (Says (step_said a)) → (c : Refusal) × (a ≡ Err c)
+step_cause (Ok progress.Running) r = absurd r
+step_cause (Ok (progress.Ended x v k)) r = absurd r
+step_cause (Err c) r = (c, refl)
 
 module _ (p : Places) (m : Memory) where
   -- A refused call leaves the cells and the row of the run.
@@ -113,9 +110,9 @@ between p m m' xs es (own {x = x} {y = y} {a = a} {es = more_es} r said more) =
 
 -- ---- The next run
 
-opened : (a : StartAnswer) → start_answered a ≡ lent.RunOpened → a ≡ start.Started
-opened start.Started e = refl
-opened (start.Refused c) e = never cc
+opened : (a : Result ⊤ Refusal) → start_answered a ≡ lent.RunOpened → a ≡ (Ok tt)
+opened (Ok tt) e = refl
+opened (Err c) e = never cc
 
 pub opens_next : (p : Places) → OpensNext p
 opens_next p m e = (opened _ e, store_same (update_same m.cells p.cells _) (update_same m.row p.row _))

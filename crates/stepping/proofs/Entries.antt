@@ -1,5 +1,6 @@
 -- Which begins are refused with 4: exactly those whose tests before it are passed, on a table with some entry out of range. And
 -- what one that is served has found.
+use Rattle.std.specs.Prelude.{Result, Ok, Err}
 use mathlib.Core.Path.{◌≡◌, refl, ap, ◌∙◌}
 use mathlib.Core.Bool.{Bool, true, false}
 use mathlib.Core.Logic.{◌≢◌}
@@ -13,8 +14,6 @@ use Rattle.laws.proofs.Clash.{never}
 use Rattle.refusal.specs.Number.{number_of}
 use Rattle.cells.proofs.Ceilings.{ceiling_cubed, no_ceiling}
 use Rattle.table.specs.declared.Shape.{Shape}
-use Rattle.table.specs.declared.Checked.{Checked}
-use Rattle.table.specs.declared.Checked.TheVariants as table
 use Rattle.table.specs.File.{shape_of}
 use Rattle.table.specs.Layout.{layout_of}
 use Rattle.table.specs.Check.{check_of}
@@ -25,14 +24,14 @@ use Rattle.table.proofs.Answers.{layout_numbers, check_answered}
 use Rattle.table.proofs.Fitting.{layout_fitting}
 use Rattle.machine.specs.Calls.{Answer, Begun, Refused}
 use Rattle.records.specs.declared.record.Task.{Task}
-use Rattle.records.specs.declared.phase.PhaseRead.{PhaseRead}
-use Rattle.records.specs.declared.phase.PhaseRead.TheVariants as record_phase
 use Rattle.records.specs.Record.{read_record}
 use Rattle.stepping.specs.Call.{begun_task, begin_said, begin_task, admit_of}
 use Rattle.stepping.specs.Statement.{BeginAsked, BeginTested, BeginEntriesJudged}
 use Rattle.stepping.proofs.Admission.{ceiling}
 use Rattle.stepping.proofs.Judged.{asked_tests, begin_tested}
 use Rattle.stepping.proofs.Rows.{other, begin_read}
+use Rattle.refusal.specs.declared.Refusal.{Refusal}
+use Rattle.records.specs.declared.phase.Phase.{Phase}
 
 -- An answer that comes after the tests before 4.
 abbrev Later : Answer → Type 0
@@ -50,15 +49,15 @@ module _ (file : List ℕ) (n i o : ℕ) (t : Task) where
 
   -- A begin that says such an answer has passed the tests before it, one after another.
   module _ (a : Answer) (later : Later a) where
-    said_numbers : (shape : Shape) → layout_of file ≡ table.Accepted shape → 1 ≤ n → n ≤ 8 → (known : Bool) → ltb i n ≡ known → (one : Bool) → ltb o shape.operations ≡ one → said ≡ a → BeginAsked file n i o
+    said_numbers : (shape : Shape) → layout_of file ≡ Ok shape → 1 ≤ n → n ≤ 8 → (known : Bool) → ltb i n ≡ known → (one : Bool) → ltb o shape.operations ≡ one → said ≡ a → BeginAsked file n i o
     unfolding begin_task admit_of
     said_numbers shape e some few false g one h says = absurd (later 7 (λ z. omega arith) (omega arith) (rw (e, ceiling_cubed n some few, g) at says))
     said_numbers shape e some few true g false h says = absurd (later 8 (λ z. omega arith) (omega arith) (rw (e, ceiling_cubed n some few, g, h) at says))
     said_numbers shape e some few true g true h says =
         let same : shape ≡ shape_of file = (layout_fitting file shape e).shape_is in
-        record { accepted = e ∙ ap table.Accepted same; some = some; few = few; below = ltb-true i n g; known = rw same at (ltb-true o shape.operations h) }
+        record { accepted = e ∙ ap Ok same; some = some; few = few; below = ltb-true i n g; known = rw same at (ltb-true o shape.operations h) }
 
-    said_row : (shape : Shape) → layout_of file ≡ table.Accepted shape → Dec (0 < n) → Dec (n < 9) → said ≡ a → BeginAsked file n i o
+    said_row : (shape : Shape) → layout_of file ≡ Ok shape → Dec (0 < n) → Dec (n < 9) → said ≡ a → BeginAsked file n i o
     unfolding begin_task admit_of
     said_row shape e (yes some) (yes few) says = said_numbers shape e some (omega arith) (ltb i n) refl (ltb o shape.operations) refl says
     said_row shape e (no none) few says = absurd (later 5 (λ z. omega arith) (omega arith) (rw (e, no_ceiling n (λ some _. none some)) at says))
@@ -68,9 +67,9 @@ module _ (file : List ℕ) (n i o : ℕ) (t : Task) where
     unfolding begin_task admit_of
     said_asked says = by (layout_of file) refl
       where
-        by : (found : Checked) → layout_of file ≡ found → BeginAsked file n i o
-        by (table.Accepted shape) e = said_row shape e (dec_lt 0 n) (dec_lt n 9) says
-        by (table.Refused c) e =
+        by : (found : Result Shape Refusal) → layout_of file ≡ found → BeginAsked file n i o
+        by (Ok shape) e = said_row shape e (dec_lt 0 n) (dec_lt n 9) says
+        by (Err c) e =
             let few = layout_numbers file c e in
             absurd (later (number_of c) (λ z. omega (arith, z, few)) (omega (arith, few)) (rw e at says))
 
@@ -97,13 +96,13 @@ module _ (file : List ℕ) (n i o : ℕ) (t : Task) where
         by a false e = let four = rw (asked_tests file n i o t a, e) at begun in never (cc four)
 
     -- Its table is accepted, and its record is that of a begun operation.
-    pub begun_accepted : check_of file ≡ table.Accepted (shape_of file)
+    pub begun_accepted : check_of file ≡ Ok (shape_of file)
     begun_accepted = ((check_answered file).accepts (shape_of file)).1 (begun_tested.asked.accepted, begun_tested.ranged)
 
     pub begun_task_lem : (begin_task file n i o t).task ≡ begun_task file (shape_of file) o t
     begun_task_lem = by (read_record (shape_of file) n (ceiling n) t) (eqb t.phase 0) refl refl
       where
-        by : (read : PhaseRead) (idle : Bool) → read_record (shape_of file) n (ceiling n) t ≡ read → eqb t.phase 0 ≡ idle → (begin_task file n i o t).task ≡ begun_task file (shape_of file) o t
-        by (record_phase.Known f) true e z = rw (begin_tested file n i o t begun_tested, e, z)
-        by (record_phase.Known f) false e z = let nine = rw (begin_tested file n i o t begun_tested, e, z) at begun in never (cc nine)
-        by (record_phase.Refused c) idle e z = let eleven = rw (begin_tested file n i o t begun_tested, e) at begun in never (cc eleven)
+        by : (read : Result Phase Refusal) (idle : Bool) → read_record (shape_of file) n (ceiling n) t ≡ read → eqb t.phase 0 ≡ idle → (begin_task file n i o t).task ≡ begun_task file (shape_of file) o t
+        by (Ok f) true e z = rw (begin_tested file n i o t begun_tested, e, z)
+        by (Ok f) false e z = let nine = rw (begin_tested file n i o t begun_tested, e, z) at begun in never (cc nine)
+        by (Err c) idle e z = let eleven = rw (begin_tested file n i o t begun_tested, e) at begun in never (cc eleven)

@@ -1,4 +1,5 @@
 -- Which records are refused with 11, and which touched cells with 12: exactly those out of form.
+use Rattle.std.specs.Prelude.{Result, Ok, Err, ⊤}
 use mathlib.Core.Path.{◌≡◌, refl, sym, ap, subst, ◌∙◌}
 use mathlib.Core.Bool.{Bool, true, false, cond, not-eq-not}
 use mathlib.Core.Logic.{◌↔◌, ◌≢◌}
@@ -21,18 +22,13 @@ use Rattle.table.proofs.Accepted.{all_tested}
 use Rattle.machine.specs.Calls.{Refused}
 use Rattle.records.specs.declared.record.Task.{Task}
 use Rattle.records.specs.declared.phase.Phase.{Phase}
-use Rattle.records.specs.declared.phase.PhaseRead.TheVariants as record_phase
 use Rattle.records.specs.Record.{read_record}
 use Rattle.records.proofs.Forms.{read_points, record_refused}
 use Rattle.transition.specs.declared.access.Access.{Access}
 use Rattle.transition.specs.declared.access.Next.{Next}
 use Rattle.transition.specs.declared.access.Next.TheVariants.{Go, Turn, End}
 use Rattle.transition.specs.Transition.{plan_of, used_in_range}
-use Rattle.stepping.specs.declared.answer.Begin.{Begin}
-use Rattle.stepping.specs.declared.answer.BeginAnswer.{BeginAnswer}
-use Rattle.stepping.specs.declared.answer.BeginAnswer.TheVariants as answer
-use Rattle.stepping.specs.declared.answer.StepAnswer.{StepAnswer}
-use Rattle.stepping.specs.declared.answer.StepAnswer.TheVariants as step
+use Rattle.stepping.specs.Call.{Begin}
 use Rattle.stepping.specs.Step.{touched, cell_in_form, answer_of, TaskOutcome, led_to, served}
 use Rattle.stepping.specs.Call.{refuse_step, touch, step_from, step_task, step_said, begun_task, refuse_begin, begin_from, begin_task, begin_said}
 use Rattle.stepping.specs.Access.{access_of}
@@ -40,6 +36,9 @@ use Rattle.stepping.specs.Statement.{FitsTable, StepTested, BeginAsked, BeginTes
 use Rattle.stepping.proofs.Admission.{ceiling, admits}
 use Rattle.stepping.proofs.Forms.{cell_fits}
 use Rattle.stepping.proofs.Refused.{refused_begin, refused_step}
+use Rattle.refusal.specs.declared.Refusal.{Refusal}
+use Rattle.stepping.specs.declared.answer.Progress.{Progress}
+use Rattle.stepping.specs.declared.answer.Progress.TheVariants as progress
 
 -- ---- What the parts of a step say
 
@@ -59,7 +58,7 @@ module _ (file : List ℕ) (shape : Shape) (cells : List ℕ) (n i : ℕ) (t : T
 
 module _ (file : List ℕ) (shape : Shape) (cells : List ℕ) (n i : ℕ) (t : Task) (f : Phase) where
   -- With a record in form a step says 10, 4, 12 or no number.
-  pub known_says : (P : ℕ → Type 0) → P 10 → P 4 → P 12 → (k : ℕ) → step_said (step_from file shape cells n i t (record_phase.Known f)).answer ≡ Refused k → P k
+  pub known_says : (P : ℕ → Type 0) → P 10 → P 4 → P 12 → (k : ℕ) → step_said (step_from file shape cells n i t (Ok f)).answer ≡ Refused k → P k
   known_says P idle entry cell k = by (eqb t.phase 0)
     where
       a : Access
@@ -84,7 +83,7 @@ module _ (file cells : List ℕ) (n i : ℕ) (t : Task) (s : StepTested file cel
   step_tested = rw (admits file n shape s.accepted s.some s.few, eq-eqb (length cells) (n + 1) s.long, lt-ltb i n s.below)
 
   -- With a record in form it doesn't say 11.
-  not_eleven : (f : Phase) → step_said (step_from file shape cells n i t (record_phase.Known f)).answer ≡ Refused 11 → ⊥
+  not_eleven : (f : Phase) → step_said (step_from file shape cells n i t (Ok f)).answer ≡ Refused 11 → ⊥
   not_eleven f e = known_says file shape cells n i t f (λ k. k ≢ 11) (λ z. omega arith) (λ z. omega arith) (λ z. omega arith) 11 e refl
 
   record_said : (step_said (step_task file cells n i t).answer ≡ Refused 11) ↔ (FitsTable file n t → ⊥)
@@ -94,7 +93,7 @@ module _ (file cells : List ℕ) (n i : ℕ) (t : Task) (s : StepTested file cel
   )
 
   -- With a pending record in form the touched cell decides between 12 and the rest.
-  module _ (f : Phase) (read : read_record shape n (ceiling n) t ≡ record_phase.Known f) (pending : t.phase ≢ 0) where
+  module _ (f : Phase) (read : read_record shape n (ceiling n) t ≡ Ok f) (pending : t.phase ≢ 0) where
     abbrev planned : Access
     planned = plan_of file shape i t.priority t f
 
@@ -146,7 +145,7 @@ begin_record_judged file n i o t s = (λ e (f, read). by (eqb t.phase 0) (rw (te
     tested : begin_task file n i o t ≡ begin_from file (shape_of file) o t (read_record (shape_of file) n (ceiling n) t)
     tested = begin_tested file n i o t s
 
-    by : (b : Bool) → begin_said (cond b (record { task = begun_task file (shape_of file) o t; answer = answer.Begun }) (refuse_begin t cause.Pending)).answer ≡ Refused 11 → ⊥
+    by : (b : Bool) → begin_said (cond b (record { task = begun_task file (shape_of file) o t; answer = (Ok tt) }) (refuse_begin t cause.Pending)).answer ≡ Refused 11 → ⊥
     by true e = never cc
     by false e = let z : ◌≡◌ {A = ℕ} 9 11 = cc in omega arith
 
@@ -155,19 +154,19 @@ begin_record_judged file n i o t s = (λ e (f, read). by (eqb t.phase 0) (rw (te
 step_left : (file cells : List ℕ) (n i : ℕ) (t : Task) (k : ℕ) → step_said (step_task file cells n i t).answer ≡ Refused k → StepRefused k file cells n i t
 step_left file cells n i t k said = by (step_task file cells n i t).answer refl
   where
-    by : (a : StepAnswer) → (step_task file cells n i t).answer ≡ a → StepRefused k file cells n i t
-    by step.Running e = let f = rw e at said in never (cc f)
-    by (step.Ended r v c) e = let f = rw e at said in never (cc f)
-    by (step.Refused c) e =
+    by : (a : Result Progress Refusal) → (step_task file cells n i t).answer ≡ a → StepRefused k file cells n i t
+    by (Ok progress.Running) e = let f = rw e at said in never (cc f)
+    by (Ok (progress.Ended r v c)) e = let f = rw e at said in never (cc f)
+    by (Err c) e =
         let same = refused_step file cells n i t c e in
         record { said = said; cells_left = ap (λ (out : TaskOutcome). out.cells) same; task_left = ap (λ (out : TaskOutcome). out.task) same }
 
 begin_left : (file : List ℕ) (n i o : ℕ) (t : Task) (k : ℕ) → begin_said (begin_task file n i o t).answer ≡ Refused k → BeginRefused k file n i o t
 begin_left file n i o t k said = by (begin_task file n i o t).answer refl
   where
-    by : (a : BeginAnswer) → (begin_task file n i o t).answer ≡ a → BeginRefused k file n i o t
-    by answer.Begun e = let f = rw e at said in never (cc f)
-    by (answer.Refused c) e = record { said = said; task_left = ap (λ (out : Begin). out.task) (refused_begin t file n i o c e) }
+    by : (a : Result ⊤ Refusal) → (begin_task file n i o t).answer ≡ a → BeginRefused k file n i o t
+    by (Ok tt) e = let f = rw e at said in never (cc f)
+    by (Err c) e = record { said = said; task_left = ap (λ (out : Begin). out.task) (refused_begin t file n i o c e) }
 
 -- ---- A holder above n
 

@@ -1,4 +1,5 @@
 -- What a step that is not refused has passed: every test in its order; and then it is served.
+use Rattle.std.specs.Prelude.{Result, Ok, Err}
 use mathlib.Core.Path.{◌≡◌, refl, sym, ◌∙◌}
 use mathlib.Core.Bool.{Bool, true, false, cond}
 use mathlib.Core.List.{List}
@@ -13,18 +14,15 @@ use Rattle.table.specs.File.{shape_of}
 use Rattle.table.proofs.Fitting.{Fitting, layout_fitting}
 use Rattle.records.specs.declared.record.Task.{Task}
 use Rattle.records.specs.declared.phase.Phase.{Phase}
-use Rattle.records.specs.declared.phase.PhaseRead.{PhaseRead}
-use Rattle.records.specs.declared.phase.PhaseRead.TheVariants as record_phase
 use Rattle.records.specs.Record.{read_record}
 use Rattle.transition.specs.declared.access.Access.{Access}
 use Rattle.transition.specs.Transition.{plan_of, used_in_range}
-use Rattle.stepping.specs.declared.call.Admitted.{Admitted}
-use Rattle.stepping.specs.declared.call.Admitted.TheVariants as admitted
 use Rattle.stepping.specs.Step.{touched, cell_in_form, TaskOutcome, served}
 use Rattle.stepping.specs.Call.{admit_of, refuse_step, touch, step_from, step_in, step_task}
 use Rattle.stepping.specs.Access.{access_of}
 use Rattle.stepping.specs.Statement.{Unrefused}
 use Rattle.stepping.proofs.Admission.{Ranges, admit_parts, admit_ranges, ceiling}
+use Rattle.stepping.specs.declared.call.Admission.{Admission}
 
 module _ (file cells : List ℕ) (n i : ℕ) (t : Task) where
   -- The access of a phase of a table with this shape.
@@ -35,10 +33,10 @@ module _ (file cells : List ℕ) (n i : ℕ) (t : Task) where
     pub shape : Shape
     pub ceiling : ℕ
     pub phase : Phase
-    pub admits : admit_of file n ≡ admitted.Admits ceiling shape
+    pub admits : admit_of file n ≡ (Ok (record { ceiling = ceiling; shape = shape }))
     pub long : eqb (length cells) (n + 1) ≡ true
     pub below : ltb i n ≡ true
-    pub read : read_record shape n ceiling t ≡ record_phase.Known phase
+    pub read : read_record shape n ceiling t ≡ Ok phase
     pub pending : eqb t.phase 0 ≡ false
     pub formed : cell_in_form shape n (touched (planned shape phase)) (get_or cells (touched (planned shape phase)) 0) ≡ true
     pub used : used_in_range file shape t (get_or cells (touched (planned shape phase)) 0) phase ≡ true
@@ -52,24 +50,24 @@ module _ (file cells : List ℕ) (n i : ℕ) (t : Task) where
   failed true x c u = absurd (u c refl)
   failed false x c u = (refl, u)
 
-  passed_in : (x : Admitted) → admit_of file n ≡ x → Unrefused (step_in file cells n i t x).answer → Passed
-  passed_in (admitted.Refused c) e u = absurd (u c refl)
-  passed_in (admitted.Admits c shape) e u = by (read_record shape n c t) refl own.1
+  passed_in : (x : Result Admission Refusal) → admit_of file n ≡ x → Unrefused (step_in file cells n i t x).answer → Passed
+  passed_in (Err c) e u = absurd (u c refl)
+  passed_in (Ok found) e u = by (read_record found.shape n found.ceiling t) refl own.1
     where
-      row : (eqb (length cells) (n + 1) ≡ true) × Unrefused (cond (ltb i n) (step_from file shape cells n i t (read_record shape n c t)) (refuse_step cells t cause.Task)).answer
+      row : (eqb (length cells) (n + 1) ≡ true) × Unrefused (cond (ltb i n) (step_from file found.shape cells n i t (read_record found.shape n found.ceiling t)) (refuse_step cells t cause.Task)).answer
       row = tested (eqb (length cells) (n + 1)) _ cause.Cells u
 
-      own : (ltb i n ≡ true) × Unrefused (step_from file shape cells n i t (read_record shape n c t)).answer
+      own : (ltb i n ≡ true) × Unrefused (step_from file found.shape cells n i t (read_record found.shape n found.ceiling t)).answer
       own = tested (ltb i n) _ cause.Task row.1
 
-      by : (read : PhaseRead) → read_record shape n c t ≡ read → Unrefused (step_from file shape cells n i t read).answer → Passed
-      by (record_phase.Refused reason) d v = absurd (v reason refl)
-      by (record_phase.Known f) d v =
-          let word : ℕ = get_or cells (touched (planned shape f)) 0 in
-          let pends = failed (eqb t.phase 0) (touch file shape cells n i t f (planned shape f)) cause.Idle v in
-          let cell = tested (cell_in_form shape n (touched (planned shape f)) word) _ cause.Cell pends.1 in
-          let entry = tested (used_in_range file shape t word f) _ cause.NextState cell.1 in
-          record { shape = shape; ceiling = c; phase = f; admits = e; long = row.0; below = own.0; read = d; pending = pends.0; formed = cell.0; used = entry.0 }
+      by : (read : Result Phase Refusal) → read_record found.shape n found.ceiling t ≡ read → Unrefused (step_from file found.shape cells n i t read).answer → Passed
+      by (Err reason) d v = absurd (v reason refl)
+      by (Ok f) d v =
+          let word : ℕ = get_or cells (touched (planned found.shape f)) 0 in
+          let pends = failed (eqb t.phase 0) (touch file found.shape cells n i t f (planned found.shape f)) cause.Idle v in
+          let cell = tested (cell_in_form found.shape n (touched (planned found.shape f)) word) _ cause.Cell pends.1 in
+          let entry = tested (used_in_range file found.shape t word f) _ cause.NextState cell.1 in
+          record { shape = found.shape; ceiling = found.ceiling; phase = f; admits = e; long = row.0; below = own.0; read = d; pending = pends.0; formed = cell.0; used = entry.0 }
 
   pub passed : Unrefused (step_task file cells n i t).answer → Passed
   unfolding step_task
@@ -88,14 +86,14 @@ module _ (file cells : List ℕ) (n i : ℕ) (t : Task) where
     step_access = rw (p.admits, p.read)
 
     pub ranges : Ranges n p.ceiling
-    ranges = admit_ranges file n p.ceiling p.shape p.admits
+    ranges = admit_ranges file n (record { ceiling = p.ceiling; shape = p.shape }) p.admits
 
     pub fitting : Fitting file p.shape
-    fitting = layout_fitting file p.shape (admit_parts file n p.ceiling p.shape p.admits).0
+    fitting = layout_fitting file p.shape (admit_parts file n (record { ceiling = p.ceiling; shape = p.shape }) p.admits).0
 
     -- The shape is the one that the trailer says, and the ceiling is 1,000·n³.
     pub shape_is : p.shape ≡ shape_of file
     shape_is = fitting.shape_is
 
     pub ceiling_is : p.ceiling ≡ ceiling n
-    ceiling_is = cc (sym (admit_parts file n p.ceiling p.shape p.admits).1 ∙ ceiling_cubed n ranges.some ranges.few)
+    ceiling_is = cc (sym (admit_parts file n (record { ceiling = p.ceiling; shape = p.shape }) p.admits).1 ∙ ceiling_cubed n ranges.some ranges.few)

@@ -1,4 +1,5 @@
 -- Reading and changing operations: what begin leaves, what a reading step answers, and which points are points of rest.
+use Rattle.std.specs.Prelude.{Ok, Err}
 use mathlib.Core.Path.{◌≡◌, refl, sym, ap, subst, ◌∙◌}
 use mathlib.Core.Bool.{Bool, true, false, cond}
 use mathlib.Core.List.{List, [], ◌∷◌}
@@ -19,7 +20,6 @@ use Rattle.cells.specs.Image.{image}
 use Rattle.cells.specs.Layout.{head_widths, head_at, state_in_word, head_of}
 use Rattle.cells.specs.declared.head.Head.{Head}
 use Rattle.table.specs.declared.Shape.{Shape}
-use Rattle.table.specs.declared.Checked.TheVariants as table
 use Rattle.table.specs.File.{byte_at, Bytes, ends_in_mark, shape_of}
 use Rattle.table.specs.Layout.{file_fits, dimensions_fit, length_fits, layout_of}
 use Rattle.table.specs.Entries.{entry_of, entry_in_range, operation_in_range, entries_in_range, moves}
@@ -35,7 +35,6 @@ use Rattle.machine.specs.History.{Pending, Nothing, Pends, pending, heard, Quiet
 use Rattle.records.specs.declared.record.Task.{Task}
 use Rattle.records.specs.declared.phase.Phase.{Phase}
 use Rattle.records.specs.declared.phase.Phase.TheVariants as phase
-use Rattle.records.specs.declared.phase.PhaseRead.TheVariants as record_phase
 use Rattle.records.specs.Phase.{phase_of}
 use Rattle.records.specs.Record.{idle_in_form, record_in_form, read_record}
 use Rattle.records.proofs.Forms.{read_parts}
@@ -84,9 +83,9 @@ unfolding head_of unpack
 state_in_word_lem w = state_at (state_in_word w) (get_or (unpack head_widths w) 2 0) (get_or (unpack head_widths w) 3 0) (get_or (unpack head_widths w) 4 0)
 
 -- The phase with number 1.
-reads_only : (t : Task) (f : Phase) → t.phase ≡ 1 → phase_of t.phase ≡ record_phase.Known f → f ≡ phase.ReadOnly
+reads_only : (t : Task) (f : Phase) → t.phase ≡ 1 → phase_of t.phase ≡ Ok f → f ≡ phase.ReadOnly
 unfolding phase_of
-reads_only t f one e = let same : record_phase.Known phase.ReadOnly ≡ record_phase.Known f = rw one at e in cc
+reads_only t f one e = let same : Ok phase.ReadOnly ≡ Ok f = rw one at e in cc
 
 pub reading_answers : (file cells : List ℕ) (n i : ℕ) (t : Task) → ReadingAnswers file cells n i t
 unfolding plan_of cell_in_form entry_in_range next_of perform_of
@@ -146,7 +145,7 @@ spare_bytes at = by (dec_lt at (length spare_file))
     by (yes h) = ltb-true _ _ (all_at (length spare_file) (λ i. ltb (byte_at spare_file i) 256) all_bytes at h)
     by (no past) = let none : byte_at spare_file at ≡ 0 = get_or-eq_default spare_file 0 (omega (arith, past)) in omega (arith, none)
 
-spare_accepted : check_of spare_file ≡ table.Accepted spare_shape
+spare_accepted : check_of spare_file ≡ Ok spare_shape
 unfolding spare_file check_of layout_of file_fits dimensions_fit length_fits entries_in_range operation_in_range entry_in_range entry_of ends_in_mark shape_of all_below
 spare_accepted = refl
 

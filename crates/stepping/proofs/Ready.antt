@@ -1,4 +1,5 @@
 -- What a pending record in form tells a step: the ranges of priority and steps, and that its access touches one of the cells.
+use Rattle.std.specs.Prelude.{Ok}
 use mathlib.Core.Path.{◌≡◌}
 use mathlib.Core.Logic.{◌≢◌}
 use mathlib.Core.List.{List}
@@ -9,7 +10,6 @@ use Rattle.table.specs.declared.Shape.{Shape}
 use Rattle.records.specs.declared.record.Task.{Task}
 use Rattle.records.specs.declared.phase.Phase.{Phase}
 use Rattle.records.specs.declared.phase.Phase.TheVariants.{Idle, ReadOnly, Announce, Poll, LoadHead, LinkHead, LoadPriority, LoadOwn, LoadExit, LinkExit, ClearExit, ReleaseExit, Retract, ClearHead, ReloadClear, Apply, ReloadApply, LoadHelped, LinkHelped, Validate, HandOver, ReloadHandOver, Release, ReloadRelease}
-use Rattle.records.specs.declared.phase.PhaseRead.TheVariants.{Known}
 use Rattle.records.specs.Record.{read_record}
 use Rattle.transition.specs.Transition.{plan_of}
 use Rattle.stepping.specs.Step.{touched}
@@ -51,7 +51,7 @@ pub record Ready (file : List ℕ) (shape : Shape) (n k i : ℕ) (t : Task) (f :
   pub steps : t.steps < 1000000
   pub cell : touched (plan_of file shape i t.priority t f) < k
 
-pub ready : (file : List ℕ) (shape : Shape) (n c k i : ℕ) (t : Task) (f : Phase) → c ≤ greatest_ceiling → k ≡ n + 1 → i < n → t.phase ≢ 0 → read_record shape n c t ≡ Known f → Ready file shape n k i t f
+pub ready : (file : List ℕ) (shape : Shape) (n c k i : ℕ) (t : Task) (f : Phase) → c ≤ greatest_ceiling → k ≡ n + 1 → i < n → t.phase ≢ 0 → read_record shape n c t ≡ Ok f → Ready file shape n k i t f
 ready file shape n c k i t f low count own pending e =
     let p = read_points shape n c t pending f e in
     let cell : touched (plan_of file shape i t.priority t f) < n + 1 = touched_below file shape n i t own p.priority f (read_works shape n c t pending f e) in

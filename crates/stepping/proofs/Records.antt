@@ -1,4 +1,5 @@
 -- The record of a task in range: it is in form, and its phase is read back.
+use Rattle.std.specs.Prelude.{Ok}
 use mathlib.Core.Path.{◌≡◌, refl, sym, subst}
 use mathlib.Core.Bool.{Bool, true, false}
 use mathlib.Core.List.{List}
@@ -18,7 +19,6 @@ use Rattle.machine.specs.Machine.{Idle, ReadOnly, Announce, Poll, LoadHead, Link
 use Rattle.machine.specs.Kind.{Kind, Off, Reading, Opening, Looping, Exiting, Retracting, kind, off}
 use Rattle.machine.specs.Form.{HeadFormed, AnnouncementFormed, PhaseFormed, OperationFormed, TaskFormed}
 use Rattle.machine.proofs.Steps.Calls.{off_idle}
-use Rattle.records.specs.declared.phase.PhaseRead.TheVariants.{Known}
 use Rattle.records.specs.Record.{idle_task, read_record, RecordFits}
 use Rattle.transition.specs.Object.{ObjectTable, object_of}
 use Rattle.transition.specs.Encoding.{encode_head, encode_announcement, Kept, kept, encode_task}
@@ -86,7 +86,7 @@ module _ (file : List ℕ) (shape : Shape) (table : ObjectTable file shape) (n :
   operation_below (Retracting v) o s e w = w.0
 
   -- The record of a pending operation with its steps below the ceiling.
-  pub pending_read : (ceiling : ℕ) (t : machine.Task) → TaskFormed object n t → off (kind t.phase) ≡ false → t.steps < ceiling → read_record shape n ceiling (encode_task t) ≡ Known (kept t.phase).phase
+  pub pending_read : (ceiling : ℕ) (t : machine.Task) → TaskFormed object n t → off (kind t.phase) ≡ false → t.steps < ceiling → read_record shape n ceiling (encode_task t) ≡ Ok (kept t.phase).phase
   pending_read ceiling t formed e timely =
       saved_read shape n (kept_formed t.phase e formed.phase) t.operation t.priority t.steps ceiling (operation_below (kind t.phase) t.operation t.steps e formed.operation) formed.priority timely
 

@@ -1,4 +1,5 @@
 -- Begin and step on encoded cells and records do what the machine's begin and step do on the configuration.
+use Rattle.std.specs.Prelude.{Ok, Err}
 use mathlib.Core.Path.{◌≡◌, refl, ap, sym, subst, ◌∙◌}
 use mathlib.Core.Bool.{Bool, true, false, cond}
 use mathlib.Core.List.{List, [], ◌∷◌}
@@ -26,9 +27,7 @@ use Rattle.machine.specs.Form.{Formed}
 use Rattle.records.specs.declared.record.Task.{Task}
 use Rattle.records.specs.declared.phase.Phase.TheVariants as phase
 use Rattle.transition.specs.declared.access.Next.{Next}
-use Rattle.stepping.specs.declared.answer.Begin as declared
-use Rattle.stepping.specs.declared.answer.BeginAnswer.TheVariants as opening
-use Rattle.stepping.specs.declared.call.Admitted.TheVariants as admission
+use Rattle.stepping.specs.Call as call
 use Rattle.records.specs.Phase.{phase_number}
 use Rattle.records.specs.Record.{idle_task, read_record, RecordFits}
 use Rattle.transition.specs.Transition.{next_of}
@@ -48,6 +47,7 @@ use Rattle.stepping.proofs.Accesses.{cells_length, touched_in_form, result_simul
 use Rattle.stepping.proofs.Planned.{plan_formed, entry_in_range_lem}
 use Rattle.stepping.proofs.Advances.{advance_simulates, answer_simulates}
 use Rattle.stepping.specs.Access.{access_of as word_access}
+use Rattle.stepping.specs.declared.call.Admission.{Admission}
 
 -- A configuration whose cells and records are in range, with the steps of every pending operation below the ceiling.
 pub record InRange (b : Object) (n : ℕ) (c : Config) : Type 0 where
@@ -64,7 +64,7 @@ module _ (file : List ℕ) (shape : Shape) (table : ObjectTable file shape) (n :
   object = object_of file shape
 
   -- The tests that all calls share are passed.
-  admitted : admit_of file n ≡ admission.Admits (ceiling n) shape
+  admitted : admit_of file n ≡ (Ok (record { ceiling = (ceiling n); shape = shape }))
   admitted = admits file n shape (accepted_parts file shape table.accepted).0 some most
 
   -- One task's part of a step: task i is below n, or refused.
@@ -150,7 +150,7 @@ module _ (file : List ℕ) (shape : Shape) (table : ObjectTable file shape) (n :
       unfolding begin_task
       begin_task_lem t = rw admitted
 
-      begin_store : (out : declared.Begin) → begin_task file n i o (task_at (encode_row n c.task) i) ≡ out → serve_of file (Begin i o) (encode_config n c) ≡ record { store = record { cells = encode_cells n c.memory; row = set (encode_row n c.task) i out.task }; answer = begin_said out.answer }
+      begin_store : (out : call.Begin) → begin_task file n i o (task_at (encode_row n c.task) i) ≡ out → serve_of file (Begin i o) (encode_config n c) ≡ record { store = record { cells = encode_cells n c.memory; row = set (encode_row n c.task) i out.task }; answer = begin_said out.answer }
       unfolding begin_of
       begin_store out e = rw (row_length, e)
 
@@ -177,7 +177,7 @@ module _ (file : List ℕ) (shape : Shape) (table : ObjectTable file shape) (n :
         begin_idle e =
             let t = range.formed.task i below in
             let p = (c.task i).priority in
-            begin_store (record { task = begun_task file shape o (idle_task p); answer = opening.Begun })
+            begin_store (record { task = begun_task file shape o (idle_task p); answer = (Ok tt) })
             (rw (task_at_lem below, idle_kept file shape table n most (c.task i) t e, begin_known (idle_task p), idle_read shape n (ceiling n) p t.priority))
             ∙ rw (begun_encoded o p (changing file shape o), tabulate_set encode_task n c.task i (record { phase = first_phase (changing file shape o); operation = o; priority = p; steps = 0 }) below)
 

@@ -17,7 +17,7 @@ use Rattle.machine.proofs.Whole.Books.{state_replayed}
 use Rattle.machine.proofs.Whole.WaitFree.{bound_ceiling}
 use Rattle.records.specs.declared.record.Task.{Task}
 use Rattle.transition.specs.Encoding.{encode_access}
-use Rattle.stepping.specs.declared.answer.Begin.{Begin}
+use Rattle.stepping.specs.Call.{Begin}
 use Rattle.stepping.specs.Step.{TaskOutcome}
 use Rattle.stepping.specs.Call.{StartOutcome, start_of, admit_start_of, begin_task, step_task, admit_of}
 use Rattle.stepping.specs.Runs.{Store}

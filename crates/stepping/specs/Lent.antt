@@ -1,15 +1,14 @@
 -- Lists of calls of start, begin and step with all that they are lent, on any memory: which of them belong to a run, and what may
 -- stand between.
-use Rattle.std.specs.Prelude.{◌≡◌, ◌≢◌, List, [], ◌∷◌, map, ℕ}
+use Rattle.std.specs.Prelude.{◌≡◌, ◌≢◌, List, [], ◌∷◌, map, ℕ, Result, Ok, Err, ⊤}
 use Rattle.laws.specs.Update.{update}
 use Rattle.refusal.specs.Number.{number_of}
 use Rattle.machine.specs.Calls as run
 use Rattle.machine.specs.Calls.{Call, Answer, Event}
 use Rattle.records.specs.declared.record.Task.{Task}
-use Rattle.stepping.specs.declared.answer.StartAnswer.{StartAnswer}
-use Rattle.stepping.specs.declared.answer.StartAnswer.TheVariants as start
 use Rattle.stepping.specs.Call.{start_of, begin_of, step_of, begin_said, step_said}
 use Rattle.stepping.specs.Runs.{Store, run_of, history_of}
+use Rattle.refusal.specs.declared.Refusal.{Refusal}
 
 -- ---- Memory that is lent
 
@@ -42,9 +41,9 @@ pub data LentAnswer : Type 0 where
   RunRefused : (number : ℕ) → LentAnswer
   Says : (answer : Answer) → LentAnswer
 
-abbrev pub start_answered : StartAnswer → LentAnswer
-start_answered start.Started = RunOpened
-start_answered (start.Refused c) = RunRefused (number_of c)
+abbrev pub start_answered : Result ⊤ Refusal → LentAnswer
+start_answered (Ok tt) = RunOpened
+start_answered (Err c) = RunRefused (number_of c)
 
 -- What a call leaves, and what it answers: it writes the cells and the row that it is lent, and no other place.
 pub record Lent : Type 0 where

@@ -1,6 +1,6 @@
 -- Reading and changing operations, by the states that can be reached: what begin leaves, what a reading step answers, which states a
 -- run comes to, and which points are points of rest.
-use Rattle.std.specs.Prelude.{◌≡◌, true, false, ◌↔◌, ◌≢◌, List, [], ◌∷◌, ℕ, ◌+◌, ◌<◌, get_or}
+use Rattle.std.specs.Prelude.{◌≡◌, true, false, ◌↔◌, ◌≢◌, List, [], ◌∷◌, ℕ, ◌+◌, ◌<◌, get_or, Ok, Err}
 use Rattle.cells.specs.Form.{head_in_form}
 use Rattle.cells.specs.Image.{image}
 use Rattle.cells.specs.Layout.{state_in_word}
@@ -13,12 +13,12 @@ use Rattle.machine.specs.History.{Pends, pending, Quiet, Rest}
 use Rattle.records.specs.declared.record.Task.{Task}
 use Rattle.records.specs.Record.{idle_task}
 use Rattle.transition.specs.declared.access.Access.TheVariants.{Read}
-use Rattle.stepping.specs.declared.answer.StepAnswer.TheVariants as step
 use Rattle.stepping.specs.Call.{begin_said, begin_task, step_task, idle_row}
 use Rattle.stepping.specs.Access.{access_of}
 use Rattle.stepping.specs.Runs.{Store}
 use Rattle.stepping.specs.Opening.{Opening, object_in, shown, start_store}
 use Rattle.stepping.specs.Statement.{StepTested, FitsTable, Demands, record_after}
+use Rattle.stepping.specs.declared.answer.Progress.TheVariants as progress
 
 -- An operation preserves every state of a kind: it leads from each back to that same state.
 abbrev pub Preserves : List ℕ → Shape → (ℕ → Type 0) → ℕ → Type 0
@@ -43,7 +43,7 @@ ReadingAnswers file cells n i t =
     let q = state_in_word (get_or cells 0 0) in
     StepTested file cells n i → FitsTable file n t → t.phase ≡ 1 → head_in_form shape.states n (get_or cells 0 0) ≡ true
     → (entry_of file shape q t.operation).next < shape.states
-    → step_task file cells n i t ≡ record { cells = cells; task = idle_task t.priority; answer = step.Ended (entry_of file shape q t.operation).response (moves file shape q t.operation) (t.steps + 1) }
+    → step_task file cells n i t ≡ record { cells = cells; task = idle_task t.priority; answer = Ok (progress.Ended (entry_of file shape q t.operation).response (moves file shape q t.operation) (t.steps + 1)) }
 
 -- ---- Runs
 

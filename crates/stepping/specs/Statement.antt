@@ -1,5 +1,5 @@
 -- What is proved of start, begin and step, as types over the definitions of the calls. `proofs/Theorem.antt` has a proof of each.
-use Rattle.std.specs.Prelude.{◌≡◌, Bool, true, false, ◌↔◌, ◌≢◌, List, ℕ, ◌+◌, ◌*◌, ◌<◌, ◌≤◌, length, get_or, take}
+use Rattle.std.specs.Prelude.{◌≡◌, Bool, true, false, ◌↔◌, ◌≢◌, List, ℕ, ◌+◌, ◌*◌, ◌<◌, ◌≤◌, length, get_or, take, Result, Ok, Err}
 use Rattle.laws.specs.Places.{At}
 use Rattle.refusal.specs.declared.Refusal.{Refusal}
 use Rattle.refusal.specs.Number.{number_of, refused_by, refused}
@@ -10,8 +10,6 @@ use Rattle.cells.specs.Statement.{CellFits}
 use Rattle.cells.specs.declared.head.Head.TheVariants as head
 use Rattle.cells.specs.declared.announcement.Announcement.TheVariants as content
 use Rattle.table.specs.declared.Shape.{Shape}
-use Rattle.table.specs.declared.Checked.{Checked}
-use Rattle.table.specs.declared.Checked.TheVariants as table
 use Rattle.table.specs.File.{Bytes, shape_of}
 use Rattle.table.specs.Layout.{layout_of}
 use Rattle.table.specs.Check.{check_of}
@@ -28,10 +26,6 @@ use Rattle.records.specs.declared.record.Task.{Task}
 use Rattle.records.specs.Record.{RecordFits}
 use Rattle.transition.specs.declared.access.Access.TheVariants.{Read, Write}
 use Rattle.transition.specs.Object.{object_of}
-use Rattle.stepping.specs.declared.answer.StepAnswer.{StepAnswer}
-use Rattle.stepping.specs.declared.answer.StepAnswer.TheVariants as step
-use Rattle.stepping.specs.declared.answer.BeginAnswer.TheVariants as begin
-use Rattle.stepping.specs.declared.answer.StartAnswer.TheVariants as start
 use Rattle.stepping.specs.Step.{touched, perform_of, TaskOutcome}
 use Rattle.stepping.specs.Call.{start_said, begin_said, step_said, start_of, begin_task, step_task, task_at, begin_of, step_of}
 use Rattle.stepping.specs.Access.{access_of, given_back}
@@ -39,12 +33,14 @@ use Rattle.stepping.specs.Runs.{Store, run_of}
 use Rattle.stepping.specs.Opening.{Opening, object_in, shown, start_store}
 use Rattle.stepping.specs.Print.{EmptyAt, Print, Shows}
 use Rattle.stepping.specs.Lent.{Memory, Places, store_at, LentCall, LentStart, RunOpened, serve_lent, Around, SameRun}
+use Rattle.stepping.specs.declared.answer.Progress.{Progress}
+use Rattle.stepping.specs.declared.answer.Progress.TheVariants as progress
 
 -- ---- The access rule, for all arguments
 
 -- A step that is not refused.
-abbrev pub Unrefused : StepAnswer → Type 0
-Unrefused a = (reason : Refusal) → a ≡ step.Refused reason → ⊥
+abbrev pub Unrefused : Result Progress Refusal → Type 0
+Unrefused a = (reason : Refusal) → a ≡ Err reason → ⊥
 
 -- A step that is not refused leaves exactly the cells that its access makes of the old ones.
 abbrev pub MakesAccess : (file cells : List ℕ) (n i : ℕ) → Task → Type 0
@@ -104,37 +100,37 @@ StepByRecord file cells row i =
 
 abbrev pub StartUnchanged : (file cells : List ℕ) → List Task → Type 0
 StartUnchanged file cells row =
-    (c : Refusal) → (start_of file cells row).answer ≡ start.Refused c → ((start_of file cells row).cells ≡ cells) × ((start_of file cells row).row ≡ row)
+    (c : Refusal) → (start_of file cells row).answer ≡ Err c → ((start_of file cells row).cells ≡ cells) × ((start_of file cells row).row ≡ row)
 
 abbrev pub BeginUnchanged : List ℕ → List Task → (i o : ℕ) → Type 0
-BeginUnchanged file row i o = (c : Refusal) → (begin_of file row i o).answer ≡ begin.Refused c → (begin_of file row i o).row ≡ row
+BeginUnchanged file row i o = (c : Refusal) → (begin_of file row i o).answer ≡ Err c → (begin_of file row i o).row ≡ row
 
 abbrev pub StepUnchanged : (file cells : List ℕ) → List Task → ℕ → Type 0
 StepUnchanged file cells row i =
-    (c : Refusal) → (step_of file cells row i).answer ≡ step.Refused c → ((step_of file cells row i).cells ≡ cells) × ((step_of file cells row i).row ≡ row)
+    (c : Refusal) → (step_of file cells row i).answer ≡ Err c → ((step_of file cells row i).cells ≡ cells) × ((step_of file cells row i).row ≡ row)
 
 abbrev pub BeginRecordUnchanged : List ℕ → (n i o : ℕ) → Task → Type 0
-BeginRecordUnchanged file n i o t = (c : Refusal) → (begin_task file n i o t).answer ≡ begin.Refused c → (begin_task file n i o t).task ≡ t
+BeginRecordUnchanged file n i o t = (c : Refusal) → (begin_task file n i o t).answer ≡ Err c → (begin_task file n i o t).task ≡ t
 
 abbrev pub StepRecordUnchanged : (file cells : List ℕ) (n i : ℕ) → Task → Type 0
 StepRecordUnchanged file cells n i t =
-    (c : Refusal) → (step_task file cells n i t).answer ≡ step.Refused c → ((step_task file cells n i t).cells ≡ cells) × ((step_task file cells n i t).task ≡ t)
+    (c : Refusal) → (step_task file cells n i t).answer ≡ Err c → ((step_task file cells n i t).cells ≡ cells) × ((step_task file cells n i t).task ≡ t)
 
 -- ---- The table and the number of tasks, for all arguments
 
 -- A table that its test refuses is answered by the number of the cause: by start for 1 to 4, by begin and step for 1 to 3.
 abbrev pub StartTableRefused : (file cells : List ℕ) → List Task → Type 0
-StartTableRefused file cells row = (c : Refusal) → check_of file ≡ table.Refused c → start_said (start_of file cells row).answer ≡ refused c
+StartTableRefused file cells row = (c : Refusal) → check_of file ≡ Err c → start_said (start_of file cells row).answer ≡ refused c
 
 abbrev pub BeginTableRefused : List ℕ → (n i o : ℕ) → Task → Type 0
-BeginTableRefused file n i o t = (c : Refusal) → layout_of file ≡ table.Refused c → begin_said (begin_task file n i o t).answer ≡ Refused (number_of c)
+BeginTableRefused file n i o t = (c : Refusal) → layout_of file ≡ Err c → begin_said (begin_task file n i o t).answer ≡ Refused (number_of c)
 
 abbrev pub StepTableRefused : (file cells : List ℕ) (n i : ℕ) → Task → Type 0
-StepTableRefused file cells n i t = (c : Refusal) → layout_of file ≡ table.Refused c → step_said (step_task file cells n i t).answer ≡ Refused (number_of c)
+StepTableRefused file cells n i t = (c : Refusal) → layout_of file ≡ Err c → step_said (step_task file cells n i t).answer ≡ Refused (number_of c)
 
 -- A table has passed its test, and there are 0 or more than 8 tasks.
-abbrev pub RowRefused : Checked → ℕ → Type 0
-RowRefused tested n = ((shape : Shape) × (tested ≡ table.Accepted shape)) × (1 ≤ n → n ≤ 8 → ⊥)
+abbrev pub RowRefused : Result Shape Refusal → ℕ → Type 0
+RowRefused tested n = ((shape : Shape) × (tested ≡ Ok shape)) × (1 ≤ n → n ≤ 8 → ⊥)
 
 -- 5 is answered exactly then, whatever else is lent: by start after the tests for 1 to 4, by begin and step after those for 1 to 3.
 abbrev pub StartRowJudged : (file cells : List ℕ) → List Task → Type 0
@@ -150,7 +146,7 @@ StepRowJudged file cells n i t = (step_said (step_task file cells n i t).answer 
 
 -- The tests of a begin before 4 are passed: 1, 2, 3, 5, 7 and 8.
 pub record BeginAsked (file : List ℕ) (n i o : ℕ) : Type 0 where
-  pub accepted : layout_of file ≡ table.Accepted (shape_of file)
+  pub accepted : layout_of file ≡ Ok (shape_of file)
   pub some : 1 ≤ n
   pub few : n ≤ 8
   pub below : i < n
@@ -170,7 +166,7 @@ FitsTable file n t = RecordFits (shape_of file) n (1000 * (n * n * n)) t
 
 -- The tests of a step before 11 are passed: 1, 2, 3, 5, 6 and 7.
 pub record StepTested (file cells : List ℕ) (n i : ℕ) : Type 0 where
-  pub accepted : layout_of file ≡ table.Accepted (shape_of file)
+  pub accepted : layout_of file ≡ Ok (shape_of file)
   pub some : 1 ≤ n
   pub few : n ≤ 8
   pub long : length cells ≡ n + 1
@@ -247,13 +243,13 @@ LeavesInForm file cells n i t =
 -- Start is accepted exactly if the table is, there are 1 to 8 records, and there is one cell more.
 abbrev pub Startable : (file cells : List ℕ) → List Task → Type 0
 Startable file cells row =
-    ((start_of file cells row).answer ≡ start.Started)
-    ↔ (((shape : Shape) × (check_of file ≡ table.Accepted shape)) × (1 ≤ length row) × (length row ≤ 8) × (length cells ≡ length row + 1))
+    ((start_of file cells row).answer ≡ (Ok tt))
+    ↔ (((shape : Shape) × (check_of file ≡ Ok shape)) × (1 ≤ length row) × (length row ≤ 8) × (length cells ≡ length row + 1))
 
 -- An accepted start of a file of bytes opens a run in the table's start state.
 abbrev pub StartOpens : (file cells : List ℕ) → List Task → Type 0
 StartOpens file cells row =
-    Bytes file → (start_of file cells row).answer ≡ start.Started → Opening file (length row) (shape_of file).start (start_store file cells row)
+    Bytes file → (start_of file cells row).answer ≡ (Ok tt) → Opening file (length row) (shape_of file).start (start_store file cells row)
 
 -- ---- Demands 2 and 3 as one statement: the plain book, linearizability, the image at rest, prints at work, a bound of own steps
 
@@ -373,4 +369,4 @@ abbrev pub OpensNext : Places → Type 0
 OpensNext p =
     (m : Memory) → let file = m.table p.table in let cells = m.cells p.cells in let row = m.row p.row in
     (serve_lent (LentStart p) m).answer ≡ RunOpened
-    → ((start_of file cells row).answer ≡ start.Started) × (store_at p (serve_lent (LentStart p) m).memory ≡ start_store file cells row)
+    → ((start_of file cells row).answer ≡ (Ok tt)) × (store_at p (serve_lent (LentStart p) m).memory ≡ start_store file cells row)

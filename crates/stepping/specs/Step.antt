@@ -1,5 +1,5 @@
 -- A step of one task: the access itself, the test of the touched cell, and the record and the answer that follow.
-use Rattle.std.specs.Prelude.{Bool, cond, List, ℕ, ◌+◌, ◌%◌, eqb, get_or, set}
+use Rattle.std.specs.Prelude.{Bool, cond, List, ℕ, ◌+◌, ◌%◌, eqb, get_or, set, Result, Ok}
 use Rattle.cells.specs.Form.{head_in_form, announcement_in_form}
 use Rattle.table.specs.declared.Shape.{Shape}
 use Rattle.records.specs.declared.record.Task.{Task}
@@ -14,8 +14,9 @@ use Rattle.transition.specs.declared.access.Found.TheVariants.{Word, Stored, Swa
 use Rattle.transition.specs.declared.access.Next.{Next}
 use Rattle.transition.specs.declared.access.Next.TheVariants.{Go, Turn, End}
 use Rattle.transition.specs.Transition.{next_of}
-use Rattle.stepping.specs.declared.answer.StepAnswer.{StepAnswer}
-use Rattle.stepping.specs.declared.answer.StepAnswer.TheVariants.{Running, Ended}
+use Rattle.refusal.specs.declared.Refusal.{Refusal}
+use Rattle.stepping.specs.declared.answer.Progress.{Progress}
+use Rattle.stepping.specs.declared.answer.Progress.TheVariants as progress
 
 -- ---- The access
 
@@ -55,16 +56,16 @@ advance_of n t Turn = record { head = 0; announcement = 0; payload = 0; steps = 
 advance_of n t (End r v) = idle_task t.priority
 
 -- What an accepted step answers; the count takes in this step.
-abbrev pub answer_of : Task → Next → StepAnswer
-answer_of t (Go f v h a) = Running
-answer_of t Turn = Running
-answer_of t (End r v) = Ended r v (t.steps + 1)
+abbrev pub answer_of : Task → Next → Result Progress Refusal
+answer_of t (Go f v h a) = (Ok progress.Running)
+answer_of t Turn = (Ok progress.Running)
+answer_of t (End r v) = (Ok (progress.Ended r v (t.steps + 1)))
 
 -- The cells, the record and the answer of one task's step.
 pub record TaskOutcome : Type 0 where
   pub cells : List ℕ
   pub task : Task
-  pub answer : StepAnswer
+  pub answer : Result Progress Refusal
 
 -- What a step leads to, by what its access gives back.
 abbrev pub led_to : List ℕ → Shape → List ℕ → ℕ → Task → Phase → Access → Next

@@ -1,9 +1,9 @@
 // The record and the answer of an accepted step.
-ghost use Rattle.std.specs.Prelude.{◌≡◌, ◌+◌, ◌%◌, ◌<◌};
+ghost use Rattle.std.specs.Prelude.{◌≡◌, ◌+◌, ◌%◌, ◌<◌, Ok};
 ghost use Rattle.records.specs.Phase.{phase_number};
 ghost use Rattle.stepping.specs.Step.{advance_of, answer_of};
 
-use crate::answer::{Step, StepAnswer};
+use crate::answer::{Progress, Step};
 use records::phase::Phase;
 use records::record::Task;
 use records::record;
@@ -40,10 +40,10 @@ fn stepped(
     }
 }
 
-// The record after a step, and the answer; one that ended is idle. The count takes in this step.
+// The record after a step, and what it comes to; after one that ended it is idle. The count takes in this step.
 pub(crate) fn advance(tasks: usize, own: Task, next: Next) -> Step
     requires { (0 < tasks) × (tasks < 256) × (own.steps < 1000000) }
-    ensures { result ≡ record { task = advance_of tasks own next; answer = answer_of own next } }
+    ensures { (result.task ≡ advance_of tasks own next) × (Ok result.progress ≡ answer_of own next) }
 {
     let steps = own.steps + 1;
     match next {
@@ -54,7 +54,7 @@ pub(crate) fn advance(tasks: usize, own: Task, next: Next) -> Step
             announcement,
         } => Step {
             task: stepped(own, steps, own.priority, phase, payload, head, announcement),
-            answer: StepAnswer::Running,
+            progress: Progress::Running,
         },
         Next::Turn => Step {
             task: stepped(
@@ -66,11 +66,11 @@ pub(crate) fn advance(tasks: usize, own: Task, next: Next) -> Step
                 0,
                 0,
             ),
-            answer: StepAnswer::Running,
+            progress: Progress::Running,
         },
         Next::End { response, moved } => Step {
             task: record::idle_task(own.priority),
-            answer: StepAnswer::Ended {
+            progress: Progress::Ended {
                 response,
                 moved,
                 steps,

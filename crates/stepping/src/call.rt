@@ -1,96 +1,60 @@
 // The calls for one task, by value: the tests in their order, and what an accepted call does.
-ghost use Rattle.std.specs.Prelude.{◌≡◌, cond, ◌+◌, ◌≤◌, ◌<◌, length};
+ghost use Rattle.std.specs.Prelude.{◌≡◌, cond, ◌+◌, ◌≤◌, ◌<◌, length, Ok, Err};
 ghost use Rattle.cells.specs.Ceiling.{greatest_ceiling};
 ghost use Rattle.reach.specs.Changing.{changing};
 ghost use Rattle.records.specs.Phase.{phase_of, phase_number};
 ghost use Rattle.records.specs.Record.{idle_in_form, read_record};
 ghost use Rattle.transition.specs.Transition.{plan_of};
 ghost use Rattle.stepping.specs.Step.{touched};
-ghost use Rattle.stepping.specs.Call.{with_row, admit_of, not_granted, admit_start_of, refuse_begin, begun_task, begin_from, begin_in, begin_task, step_from, step_in, step_task};
+ghost use Rattle.stepping.specs.Call.{with_row, admit_of, admit_start_of, begun_task, begin_left, begin_in, begin_task, step_left, step_from, step_in, step_task};
 
-use crate::answer::{Begin, BeginAnswer, Start, StartAnswer, Step, StepAnswer};
+use crate::answer::Step;
 use crate::{advance, perform};
 use cells::ceiling;
-use cells::ceiling::Ceiling;
-use records::phase::{Phase, PhaseRead};
+use records::phase::Phase;
 use records::record::Task;
-use records::{phase, record};
+use records::record;
 use refusal::Refusal;
-use table::{Checked, Shape};
+use table::Shape;
 use transition::{entry, next, plan};
 
-// What the tests that all calls share find: the table's shape and the ceiling of own steps, or the first cause.
+// What the tests that all calls share find.
 #[derive(Clone, Copy)]
-pub enum Admitted {
-    Admits { ceiling: u32, shape: Shape },
-    Refused(Refusal),
+pub struct Admission {
+    // The ceiling of own steps for the number of tasks.
+    pub ceiling: u32,
+    // The table's shape.
+    pub shape: Shape,
 }
 
 // Cause 5 on the number of records, after what the test of the file answered.
-fn with_row(tasks: usize, checked: Checked) -> Admitted
+fn with_row(tasks: usize, checked: Result<Shape, Refusal>) -> Result<Admission, Refusal>
     ensures { result ≡ with_row tasks checked }
 {
-    match checked {
-        Checked::Refused(cause) => Admitted::Refused(cause),
-        Checked::Accepted(shape) => {
-            let found = ceiling::ceiling_for(tasks);
-            match found {
-                Ceiling::Refused(cause) => Admitted::Refused(cause),
-                Ceiling::Steps(ceiling) => Admitted::Admits { ceiling, shape },
-            }
-        }
-    }
+    let shape = checked?;
+    let ceiling = ceiling::ceiling_for(tasks)?;
+    Ok(Admission { ceiling, shape })
 }
 
 // The tests that begin and step share: causes 1 to 3, then 5.
 #[tactic(auto, unfolding(crate::specs::Call::admit_of))]
-pub fn admit(file: &[u8], tasks: usize) -> Admitted
+pub fn admit(file: &[u8], tasks: usize) -> Result<Admission, Refusal>
     ensures { result ≡ admit_of file.now tasks }
 {
     with_row(tasks, table::check_layout(file))
 }
 
-// A start that is not granted.
-fn refuse_start(cause: Refusal) -> Start
-    ensures { result ≡ not_granted cause }
-{
-    Start {
-        granted: false,
-        state: 0,
-        answer: StartAnswer::Refused(cause),
-    }
-}
-
-// The tests of start on a file, a number of cells and a number of records: causes 1 to 6. If it is granted, the cells are
-// to be filled with the image of the state, and the records with idle tasks.
+// The tests of start on a file, a number of cells and a number of records: causes 1 to 6. If none holds, the cells are to be
+// filled with the image of the state that is answered, and the records with idle tasks.
 #[tactic(auto, using(crate::proofs::Admission::admitted_ranges), unfolding(crate::specs::Call::admit_start_of))]
-pub fn admit_start(file: &[u8], cells: usize, tasks: usize) -> Start
+pub fn admit_start(file: &[u8], cells: usize, tasks: usize) -> Result<u16, Refusal>
     ensures { result ≡ admit_start_of file.now cells tasks }
 {
-    let admitted = with_row(tasks, table::check(file));
-    match admitted {
-        Admitted::Refused(cause) => refuse_start(cause),
-        Admitted::Admits { ceiling: _, shape } => {
-            if cells != tasks + 1 {
-                return refuse_start(Refusal::Cells);
-            }
-            Start {
-                granted: true,
-                state: shape.start,
-                answer: StartAnswer::Started,
-            }
-        }
+    let admission = with_row(tasks, table::check(file))?;
+    if cells != tasks + 1 {
+        return Err(Refusal::Cells);
     }
-}
-
-// A begin that is refused leaves the record as it was.
-fn refuse_begin(own: Task, cause: Refusal) -> Begin
-    ensures { result ≡ refuse_begin own cause }
-{
-    Begin {
-        task: own,
-        answer: BeginAnswer::Refused(cause),
-    }
+    Ok(admission.shape.start)
 }
 
 // The first phase's number: a changing operation is announced, a reading one has one step.
@@ -118,75 +82,53 @@ fn begun_task(file: &[u8], shape: Shape, operation: u16, own: Task) -> Task
     }
 }
 
-// Begin for a record in form: it is pending or idle.
-fn begin_from(file: &[u8], shape: Shape, operation: u16, own: Task) -> Begin
-    ensures { result ≡ begin_from file.now shape operation own (PhaseRead.Known Phase.Idle) }
-{
-    if own.phase != 0 {
-        return refuse_begin(own, Refusal::Pending);
-    }
-    Begin {
-        task: begun_task(file, shape, operation, own),
-        answer: BeginAnswer::Begun,
-    }
-}
-
-// Begin for an admitted table.
+// Begin for an admitted table: the record is in form, and idle.
 fn begin_in(
     file: &[u8],
-    shape: Shape,
-    ceiling: u32,
+    admission: Admission,
     tasks: usize,
     task: usize,
     operation: usize,
     own: Task,
-) -> Begin
-    ensures { result ≡ begin_in file.now tasks task operation own (Admitted.Admits ceiling shape) }
+) -> Result<Task, Refusal>
+    ensures { begin_left own result ≡ begin_in file.now tasks task operation own (Ok admission) }
 {
+    let shape = admission.shape;
     if task >= tasks {
-        return refuse_begin(own, Refusal::Task);
+        return Err(Refusal::Task);
     }
     if operation >= shape.operations as usize {
-        return refuse_begin(own, Refusal::Operation);
+        return Err(Refusal::Operation);
     }
     let chosen = operation as u16;
     if !table::entries_in_range(file, shape) {
-        return refuse_begin(own, Refusal::NextState);
+        return Err(Refusal::NextState);
     }
-    let read = record::read_record(shape, tasks, ceiling, own);
-    match read {
-        PhaseRead::Refused(cause) => refuse_begin(own, cause),
-        PhaseRead::Known(_) => begin_from(file, shape, chosen, own),
+    record::read_record(shape, tasks, admission.ceiling, own)?;
+    if own.phase != 0 {
+        return Err(Refusal::Pending);
     }
+    Ok(begun_task(file, shape, chosen, own))
 }
 
-// Begins an operation for one task of a row, by its record; a refused call leaves the record as it was.
+// Begins an operation for one task of a row, by its record: the record that it has then.
 #[tactic(auto, unfolding(crate::specs::Call::begin_task))]
-pub fn begin_task(file: &[u8], tasks: usize, task: usize, operation: usize, own: Task) -> Begin
-    ensures { result ≡ begin_task file.now tasks task operation own }
+pub fn begin_task(
+    file: &[u8],
+    tasks: usize,
+    task: usize,
+    operation: usize,
+    own: Task,
+) -> Result<Task, Refusal>
+    ensures { begin_left own result ≡ begin_task file.now tasks task operation own }
 {
-    let admitted = admit(file, tasks);
-    match admitted {
-        Admitted::Refused(cause) => refuse_begin(own, cause),
-        Admitted::Admits { ceiling, shape } => {
-            begin_in(file, shape, ceiling, tasks, task, operation, own)
-        }
-    }
-}
-
-// A step that is refused leaves the record as it was.
-fn refuse_step(own: Task, cause: Refusal) -> Step
-    ensures { result ≡ record { task = own; answer = StepAnswer.Refused cause } }
-{
-    Step {
-        task: own,
-        answer: StepAnswer::Refused(cause),
-    }
+    let admission = admit(file, tasks)?;
+    begin_in(file, admission, tasks, task, operation, own)
 }
 
 // A step for a pending record in form: its access is planned, the touched cell and the used entry are tested, and the
 // access is made.
-#[tactic(auto, using(crate::proofs::Parts::refused, crate::proofs::Parts::cell_refused, crate::proofs::Parts::entry_refused, crate::proofs::Parts::accepted))]
+#[tactic(auto, using(crate::proofs::Parts::cell_refused, crate::proofs::Parts::entry_refused, crate::proofs::Parts::accepted))]
 fn step_from(
     file: &[u8],
     cells: &mut [u64],
@@ -195,9 +137,9 @@ fn step_from(
     task: usize,
     own: Task,
     phase: Phase,
-) -> Step
+) -> Result<Step, Refusal>
     requires { (0 < tasks) × (tasks ≤ 8) × (task < tasks) × (own.priority < tasks) × (own.steps < 1000000) × (touched (plan_of file.now shape task own.priority own phase) < length cells.old) × (own.phase ≡ 0 → ⊥) }
-    ensures { record { cells = cells.exit.now; task = result.task; answer = result.answer } ≡ step_from file.now shape cells.entry.now tasks task own (PhaseRead.Known phase) }
+    ensures { step_left cells.new own result ≡ step_from file.now shape cells.old tasks task own (Ok phase) }
 {
     let place = task as u8;
     let first = own.priority as u8;
@@ -205,14 +147,14 @@ fn step_from(
     let cell = perform::touched_by(access);
     let word = cells[cell];
     if !perform::cell_in_form(shape, tasks, cell, word) {
-        return refuse_step(own, Refusal::Cell);
+        return Err(Refusal::Cell);
     }
     if !entry::used_in_range(file, shape, own, word, phase) {
-        return refuse_step(own, Refusal::NextState);
+        return Err(Refusal::NextState);
     }
     let found = perform::perform(cells, access);
     let next = next::next(file, shape, place, first, own, phase, found);
-    advance::advance(tasks, own, next)
+    Ok(advance::advance(tasks, own, next))
 }
 
 // Why a step of an idle task is refused: it has no operation pending, or its record is out of form.
@@ -227,71 +169,66 @@ fn idle_cause(tasks: usize, own: Task) -> Refusal
 
 // A step for a record of a known phase: its form is tested by its parts, which the compiler takes in here; as one function
 // they would be a call.
-#[tactic(auto, using(crate::proofs::Parts::refused, crate::proofs::Parts::idle_refused, crate::proofs::Parts::form_refused, crate::proofs::Parts::in_form_lem, crate::proofs::Ready::ready), unfolding(records::specs::Record::pending_in_form))]
+#[tactic(auto, using(crate::proofs::Parts::idle_refused, crate::proofs::Parts::form_refused, crate::proofs::Parts::in_form_lem, crate::proofs::Ready::ready), unfolding(records::specs::Record::pending_in_form))]
 fn step_known(
     file: &[u8],
     cells: &mut [u64],
-    shape: Shape,
-    ceiling: u32,
+    admission: Admission,
     tasks: usize,
     task: usize,
     own: Task,
     phase: Phase,
-) -> Step
-    requires { (0 < tasks) × (tasks ≤ 8) × (ceiling ≤ greatest_ceiling) × (task < tasks) × (length cells.old ≡ tasks + 1) × (phase_of own.phase ≡ PhaseRead.Known phase) }
-    ensures { record { cells = cells.exit.now; task = result.task; answer = result.answer } ≡ step_from file.now shape cells.entry.now tasks task own (read_record shape tasks ceiling own) }
+) -> Result<Step, Refusal>
+    requires { (0 < tasks) × (tasks ≤ 8) × (admission.ceiling ≤ greatest_ceiling) × (task < tasks) × (length cells.old ≡ tasks + 1) × (phase_of own.phase ≡ Ok phase) }
+    ensures { step_left cells.new own result ≡ step_from file.now admission.shape cells.old tasks task own (read_record admission.shape tasks admission.ceiling own) }
 {
+    let shape = admission.shape;
     if own.phase == 0 {
-        return refuse_step(own, idle_cause(tasks, own));
+        return Err(idle_cause(tasks, own));
     }
-    if !record::numbers_in_form(shape, tasks, ceiling, own) {
-        return refuse_step(own, Refusal::Record);
+    if !record::numbers_in_form(shape, tasks, admission.ceiling, own) {
+        return Err(Refusal::Record);
     }
     if !record::words_in_form(shape, tasks, own) {
-        return refuse_step(own, Refusal::Record);
+        return Err(Refusal::Record);
     }
     step_from(file, cells, shape, tasks, task, own, phase)
 }
 
 // A step for an admitted table.
-#[tactic(auto, using(crate::proofs::Parts::refused), unfolding(records::specs::Record::read_record))]
+#[tactic(auto, unfolding(records::specs::Record::read_record))]
 fn step_in(
     file: &[u8],
     cells: &mut [u64],
-    shape: Shape,
-    ceiling: u32,
+    admission: Admission,
     tasks: usize,
     task: usize,
     own: Task,
-) -> Step
-    requires { (0 < tasks) × (tasks ≤ 8) × (ceiling ≤ greatest_ceiling) }
-    ensures { record { cells = cells.exit.now; task = result.task; answer = result.answer } ≡ step_in file.now cells.entry.now tasks task own (Admitted.Admits ceiling shape) }
+) -> Result<Step, Refusal>
+    requires { (0 < tasks) × (tasks ≤ 8) × (admission.ceiling ≤ greatest_ceiling) }
+    ensures { step_left cells.new own result ≡ step_in file.now cells.old tasks task own (Ok admission) }
 {
     if cells.len() != tasks + 1 {
-        return refuse_step(own, Refusal::Cells);
+        return Err(Refusal::Cells);
     }
     if tasks <= task {
-        return refuse_step(own, Refusal::Task);
+        return Err(Refusal::Task);
     }
-    let read = phase::read_phase(own.phase);
-    match read {
-        PhaseRead::Refused(cause) => refuse_step(own, cause),
-        PhaseRead::Known(phase) => {
-            step_known(file, cells, shape, ceiling, tasks, task, own, phase)
-        }
-    }
+    let phase = Phase::try_from(own.phase)?;
+    step_known(file, cells, admission, tasks, task, own, phase)
 }
 
-// Makes one step for one task of a row, by its record; a refused call leaves record and cells as they were.
-#[tactic(auto, using(crate::proofs::Admission::admit_ranges, crate::proofs::Parts::refused), unfolding(crate::specs::Call::step_task))]
-pub fn step_task(file: &[u8], cells: &mut [u64], tasks: usize, task: usize, own: Task) -> Step
-    ensures { record { cells = cells.exit.now; task = result.task; answer = result.answer } ≡ step_task file.now cells.entry.now tasks task own }
+// Makes one step for one task of a row, by its record; a refused call leaves the cells as they were.
+#[tactic(auto, using(crate::proofs::Admission::admit_ranges), unfolding(crate::specs::Call::step_task))]
+pub fn step_task(
+    file: &[u8],
+    cells: &mut [u64],
+    tasks: usize,
+    task: usize,
+    own: Task,
+) -> Result<Step, Refusal>
+    ensures { step_left cells.new own result ≡ step_task file.now cells.old tasks task own }
 {
-    let admitted = admit(file, tasks);
-    match admitted {
-        Admitted::Refused(cause) => refuse_step(own, cause),
-        Admitted::Admits { ceiling, shape } => {
-            step_in(file, cells, shape, ceiling, tasks, task, own)
-        }
-    }
+    let admission = admit(file, tasks)?;
+    step_in(file, cells, admission, tasks, task, own)
 }

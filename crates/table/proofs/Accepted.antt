@@ -1,4 +1,5 @@
 -- What an accepted table promises to the calls that use it.
+use Rattle.std.specs.Prelude.{Result, Ok, Err}
 use Prim.Native.Nat.{ℕ, ◌<◌}
 use mathlib.Core.Path.{◌≡◌, sym, ap, ◌∙◌}
 use mathlib.Core.Bool.{true, false}
@@ -8,8 +9,6 @@ use borrow.Author.Tests.{ltb-true, ltb-false, lt-ltb, le-ltb}
 use Rattle.laws.proofs.Choice.{taken}
 use Rattle.refusal.specs.declared.Refusal.TheVariants.{NextState}
 use Rattle.table.specs.declared.Shape.{Shape}
-use Rattle.table.specs.declared.Checked.{Checked}
-use Rattle.table.specs.declared.Checked.TheVariants.{Accepted, Refused}
 use Rattle.laws.proofs.Below.{all_at, all_of, not_all, fails_at}
 use Rattle.table.specs.File.{Bytes}
 use Rattle.table.specs.Entries.{entry_of, entry_in_range, operation_in_range, entries_in_range}
@@ -17,6 +16,7 @@ use Rattle.table.specs.Layout.{layout_of}
 use Rattle.table.specs.Check.{with_entries, check_of}
 use Rattle.table.specs.Statement.{AllInRange, OutOfRange}
 use Rattle.table.proofs.Fitting.{Fitting, layout_fitting, fitting_layout, refused}
+use Rattle.refusal.specs.declared.Refusal.{Refusal}
 
 module _ (file : List ℕ) (shape : Shape) where
   -- One tested entry: its next state is one of the table's states.
@@ -38,19 +38,19 @@ module _ (file : List ℕ) (shape : Shape) where
   pub tested_all : entries_in_range file shape ≡ true → AllInRange file shape
   tested_all e state operation q o = next_below state operation (operation_entry operation (entries_operation e operation o) state q)
 
-  parts : (layout : Checked) → with_entries file layout ≡ Accepted shape → (layout ≡ Accepted shape) × (entries_in_range file shape ≡ true)
-  parts (Accepted found) e =
+  parts : (layout : Result Shape Refusal) → with_entries file layout ≡ Ok shape → (layout ≡ Ok shape) × (entries_in_range file shape ≡ true)
+  parts (Ok found) e =
       let t = taken (entries_in_range file found) _ _ _ e (refused NextState shape) in
       let i : found ≡ shape = cc t.1 in
       (t.1, sym (ap (entries_in_range file) i) ∙ t.0)
-  parts (Refused cause) e = absurd (refused cause shape e)
+  parts (Err cause) e = absurd (refused cause shape e)
 
   -- The layout of an accepted table is accepted, with the same shape, and all its entries are in range.
-  pub accepted_parts : check_of file ≡ Accepted shape → (layout_of file ≡ Accepted shape) × (entries_in_range file shape ≡ true)
+  pub accepted_parts : check_of file ≡ Ok shape → (layout_of file ≡ Ok shape) × (entries_in_range file shape ≡ true)
   unfolding check_of
   accepted_parts e = parts (layout_of file) e
 
-  module _ (accepted : check_of file ≡ Accepted shape) where
+  module _ (accepted : check_of file ≡ Ok shape) where
     -- None of causes 1 to 3 holds: the ranges of the dimensions, and the shape that the trailer says.
     pub accepted_fitting : Fitting file shape
     accepted_fitting = layout_fitting file shape (accepted_parts accepted).0
@@ -85,7 +85,7 @@ module _ (file : List ℕ) (shape : Shape) where
   )
 
   -- A file of which none of causes 1 to 4 holds is accepted.
-  pub fitting_accepted : Fitting file shape → AllInRange file shape → check_of file ≡ Accepted shape
+  pub fitting_accepted : Fitting file shape → AllInRange file shape → check_of file ≡ Ok shape
   unfolding check_of
   fitting_accepted fitting all = simp (fitting_layout file shape fitting, all_tested all)
 

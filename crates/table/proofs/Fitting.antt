@@ -1,4 +1,5 @@
 -- What it means that a file's length, mark and trailer are accepted.
+use Rattle.std.specs.Prelude.{Ok, Err}
 use Prim.Native.Nat.{ℕ, ◌<◌, ◌≤◌}
 use mathlib.Core.Path.{◌≡◌, ap, ◌∙◌}
 use mathlib.Core.Bool.{true, and-eq-true_iff}
@@ -10,7 +11,6 @@ use Rattle.laws.proofs.Choice.{taken}
 use Rattle.refusal.specs.declared.Refusal.{Refusal}
 use Rattle.refusal.specs.declared.Refusal.TheVariants.{File, Dimensions, Length}
 use Rattle.table.specs.declared.Shape.{Shape}
-use Rattle.table.specs.declared.Checked.TheVariants.{Accepted, Refused}
 use Rattle.table.specs.File.{ends_in_mark, shape_of, trailer_bytes}
 use Rattle.table.specs.Layout.{longest_file, most_states, most_operations, greatest_offset, file_length, file_fits, dimensions_fit, length_fits, layout_of}
 
@@ -29,7 +29,7 @@ pub record Fitting (file : List ℕ) (shape : Shape) : Type 0 where
   pub adds_up : file_length shape ≡ length file
 
 -- No refusal is an acceptance.
-pub refused : (cause : Refusal) (shape : Shape) → Refused cause ≡ Accepted shape → ⊥
+pub refused : (cause : Refusal) (shape : Shape) → Err cause ≡ Ok shape → ⊥
 refused cause shape e = never cc
 
 module _ (file : List ℕ) (shape : Shape) where
@@ -56,7 +56,7 @@ module _ (file : List ℕ) (shape : Shape) where
       (leb-true _ _ p.0, eqb-true _ _ p.1)
 
   -- An accepted layout means that none of causes 1 to 3 holds.
-  pub layout_fitting : layout_of file ≡ Accepted shape → Fitting file shape
+  pub layout_fitting : layout_of file ≡ Ok shape → Fitting file shape
   unfolding layout_of
   layout_fitting e =
       let f = taken (file_fits file) _ _ _ e (refused File shape) in
@@ -81,7 +81,7 @@ module _ (file : List ℕ) (shape : Shape) where
       }
 
   -- A file of which none of causes 1 to 3 holds has an accepted layout.
-  pub fitting_layout : Fitting file shape → layout_of file ≡ Accepted shape
+  pub fitting_layout : Fitting file shape → layout_of file ≡ Ok shape
   unfolding layout_of file_fits dimensions_fit length_fits
   fitting_layout f =
       simp (

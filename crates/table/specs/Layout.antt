@@ -1,11 +1,10 @@
 -- docs/FORMATS.md, "When a call is not served": causes 1 to 3, which concern the file's length, its mark and its trailer.
-use Rattle.std.specs.Prelude.{Bool, cond, ◌&&◌, List, ℕ, ◌+◌, ◌*◌, leb, ltb, eqb, length}
+use Rattle.std.specs.Prelude.{Bool, cond, ◌&&◌, List, ℕ, ◌+◌, ◌*◌, leb, ltb, eqb, length, Result, Ok, Err}
 use Rattle.refusal.specs.declared.Refusal.TheVariants.{File, Dimensions, Length}
 use Rattle.table.specs.declared.Shape.{Shape}
-use Rattle.table.specs.declared.Checked.{Checked}
-use Rattle.table.specs.declared.Checked.TheVariants.{Accepted, Refused}
 use Rattle.table.specs.File.{ends_in_mark, shape_of, trailer_bytes}
 use Rattle.table.specs.Entries.{entry_bytes}
+use Rattle.refusal.specs.declared.Refusal.{Refusal}
 
 -- The length of the longest file.
 abbrev pub longest_file : ℕ
@@ -42,10 +41,10 @@ length_fits bytes shape =
     leb shape.offset greatest_offset && eqb (file_length shape) bytes
 
 -- The first of causes 1 to 3 that holds, or the file's shape.
-unfoldable pub layout_of : List ℕ → Checked
+unfoldable pub layout_of : List ℕ → Result Shape Refusal
 layout_of file =
     cond (file_fits file)
     (cond (dimensions_fit (shape_of file))
-    (cond (length_fits (length file) (shape_of file)) (Accepted (shape_of file)) (Refused Length))
-    (Refused Dimensions))
-    (Refused File)
+    (cond (length_fits (length file) (shape_of file)) (Ok (shape_of file)) (Err Length))
+    (Err Dimensions))
+    (Err File)

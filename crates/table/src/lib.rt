@@ -39,13 +39,6 @@ pub struct Shape {
     pub start: u16,
 }
 
-// What a table's test answers.
-#[derive(Clone, Copy)]
-pub enum Checked {
-    Accepted(Shape),
-    Refused(Refusal),
-}
-
 // What an operation does in a state.
 #[derive(Clone, Copy)]
 pub struct Entry {
@@ -185,20 +178,20 @@ fn length_fits(length: usize, shape: Shape) -> bool
 
 // The first of causes 1 to 3 that holds, or the file's shape.
 #[tactic(auto, unfolding(crate::specs::Layout::layout_of))]
-pub fn check_layout(file: &[u8]) -> Checked
+pub fn check_layout(file: &[u8]) -> Result<Shape, Refusal>
     ensures { result ≡ layout_of file.now }
 {
     if !file_fits(file) {
-        return Checked::Refused(Refusal::File);
+        return Err(Refusal::File);
     }
     let shape = read_shape(file);
     if !dimensions_fit(shape) {
-        return Checked::Refused(Refusal::Dimensions);
+        return Err(Refusal::Dimensions);
     }
     if !length_fits(file.len(), shape) {
-        return Checked::Refused(Refusal::Length);
+        return Err(Refusal::Length);
     }
-    Checked::Accepted(shape)
+    Ok(shape)
 }
 
 // The entry of a state and an operation.
@@ -257,20 +250,14 @@ pub fn entries_in_range(file: &[u8], shape: Shape) -> bool
 
 // The first of causes 1 to 4 that holds, 4 on all entries, or the file's shape.
 #[tactic(auto, unfolding(crate::specs::Check::check_of))]
-pub fn check(file: &[u8]) -> Checked
+pub fn check(file: &[u8]) -> Result<Shape, Refusal>
     ensures { result ≡ check_of file.now }
 {
-    let layout = check_layout(file);
-    match layout {
-        Checked::Refused(cause) => Checked::Refused(cause),
-        Checked::Accepted(shape) => {
-            if entries_in_range(file, shape) {
-                Checked::Accepted(shape)
-            } else {
-                Checked::Refused(Refusal::NextState)
-            }
-        }
+    let shape = check_layout(file)?;
+    if !entries_in_range(file, shape) {
+        return Err(Refusal::NextState);
     }
+    Ok(shape)
 }
 
 // Whether an operation leads from a state to another one.

@@ -1,4 +1,5 @@
 -- A file that is written reads back as what was written.
+use Rattle.std.specs.Prelude.{Ok}
 use mathlib.Core.Path.{◌≡◌, refl, sym, ap, ◌∙◌}
 use mathlib.Core.List.{List, ◌++◌}
 use Prim.Native.Nat.{ℕ, suc, ◌+◌, ◌*◌, ◌%◌, ◌<◌, ◌≤◌}
@@ -8,7 +9,6 @@ use lib.ListN.{length, get_or-append}
 use Rattle.laws.proofs.Lists.{append_all}
 use Rattle.laws.proofs.Joined.{joined_length, joined_at, joined_all, joined_same}
 use Rattle.table.specs.declared.Entry.{Entry}
-use Rattle.table.specs.declared.Checked.TheVariants.{Accepted}
 use Rattle.table.specs.File.{byte_at, Bytes}
 use Rattle.table.specs.Entries.{entry_bytes, entry_place, entry_of}
 use Rattle.table.specs.Layout.{file_length}
@@ -104,7 +104,7 @@ module _ (s m start : ℕ) (entry : ℕ → ℕ → Entry) where
           adds_up = sym written_length;
         }
 
-    written_accepted : check_of (file_of s m start entry) ≡ Accepted (plain_shape s m start)
+    written_accepted : check_of (file_of s m start entry) ≡ Ok (plain_shape s m start)
     written_accepted =
         fitting_accepted (file_of s m start entry) (plain_shape s m start) fitting
         (λ q o below_s below_m. rw (entry_read q o below_s below_m) (limits.next_below q o below_s below_m))

@@ -1,8 +1,7 @@
 -- What is proved of a file that is written: it is accepted, and reads back as what was written.
-use Rattle.std.specs.Prelude.{◌≡◌, true, List, ◌++◌, ℕ, ◌<◌, ◌≤◌, length}
+use Rattle.std.specs.Prelude.{◌≡◌, true, List, ◌++◌, ℕ, ◌<◌, ◌≤◌, length, Ok}
 use Rattle.table.specs.declared.Shape.{Shape}
 use Rattle.table.specs.declared.Entry.{Entry}
-use Rattle.table.specs.declared.Checked.TheVariants.{Accepted}
 use Rattle.table.specs.File.{Bytes, ends_in_mark, shape_of}
 use Rattle.table.specs.Entries.{entry_of}
 use Rattle.table.specs.Layout.{most_states, most_operations, file_length}
@@ -35,6 +34,6 @@ pub record WithinLimits (states operations start : ℕ) (entry : ℕ → ℕ →
 pub record ReadsBack (states operations start : ℕ) (entry : ℕ → ℕ → Entry) : Type 0 where
   pub long : length (file_of states operations start entry) ≡ file_length (plain_shape states operations start)
   pub bytes : Bytes (file_of states operations start entry)
-  pub accepted : check_of (file_of states operations start entry) ≡ Accepted (plain_shape states operations start)
+  pub accepted : check_of (file_of states operations start entry) ≡ Ok (plain_shape states operations start)
   pub entries : (state operation : ℕ) → state < states → operation < operations
       → entry_of (file_of states operations start entry) (plain_shape states operations start) state operation ≡ entry state operation

@@ -1,8 +1,7 @@
 -- The object of a table.
-use Rattle.std.specs.Prelude.{◌≡◌, List, ℕ, ◌^◌}
+use Rattle.std.specs.Prelude.{◌≡◌, List, ℕ, ◌^◌, Ok, Err}
 use Rattle.cells.specs.Layout.{response_width}
 use Rattle.table.specs.declared.Shape.{Shape}
-use Rattle.table.specs.declared.Checked.TheVariants as table
 use Rattle.table.specs.File.{Bytes}
 use Rattle.table.specs.Check.{check_of}
 use Rattle.table.specs.Entries.{entry_of, moves}
@@ -12,7 +11,7 @@ use Rattle.machine.specs.Object.{Object}
 -- A file of bytes that is accepted as a table of this shape.
 pub record ObjectTable (file : List ℕ) (shape : Shape) : Type 0 where
   pub bytes : Bytes file
-  pub accepted : check_of file ≡ table.Accepted shape
+  pub accepted : check_of file ≡ Ok shape
 
 -- Its object: next state and response stand in its entries, an entry with another next state than its own moves the state, and the
 -- good states are those that can be reached from the start state.

@@ -1,15 +1,15 @@
 -- A window call looks at the record of its task alone, and a command is served once.
+use Rattle.std.specs.Prelude.{Result, ⊤}
 use mathlib.Core.Path.{◌≡◌, refl, sym, ap, ◌∙◌}
 use mathlib.Core.List.{List, []}
 use Prim.Native.Nat.{ℕ}
 use native.Mathlib.Omega.{arith}
 use lib.ListN.{length}
 use Rattle.records.specs.declared.record.Task.{Task}
-use Rattle.stepping.specs.declared.answer.Begin.{Begin}
+use Rattle.stepping.specs.Call.{Begin}
 use Rattle.stepping.specs.Step.{TaskOutcome}
 use Rattle.stepping.specs.Call.{begin_task, step_task, task_at}
 use Rattle.stepping.proofs.Theorem.{begins_by_record, steps_by_record}
-use Rattle.window.specs.declared.Place.{Place}
 use Rattle.window.specs.Written.{after_begin, after_step}
 use Rattle.window.specs.Serve.{Asked, Settled, Begins, Steps, commanded, asked_in, asked_of, begun_answer, stepped_answer, made, window_of}
 use Rattle.window.specs.Events.{Served, WindowStore, happen, call_by}
@@ -17,6 +17,7 @@ use Rattle.window.specs.Statement.{HasWindow, ByRecord, RecordAlone, ServedOnce}
 use Rattle.window.proofs.Commands as found
 use Rattle.window.proofs.Commands.{Placed, placed}
 use Rattle.window.proofs.Left.{others_stay, taken_once}
+use Rattle.refusal.specs.declared.Refusal.{Refusal}
 
 module _ (file cells : List ℕ) (row others : List Task) (windows : List ℕ) (t : ℕ) (long : length row ≡ length others) (same : task_at row t ≡ task_at others t) where
   -- The begin and the step of one record.
@@ -71,7 +72,7 @@ served_once file l t = by (placed w' n' t)
     same_long : n' ≡ length l.store.row
     same_long = (record_alone file l.store.cells l.store.row l.windows t l.store.row refl refl).long
 
-    by : {p : Place} → Placed w' n' t p → call_by t (asked_in w' t p) ≡ []
+    by : {p : (Result ⊤ Refusal)} → Placed w' n' t p → call_by t (asked_in w' t p) ≡ []
     by (found.inside fits below) =
         let left = (others_stay file l.store.cells l.store.row l.windows t).long in
         let has : HasWindow l.windows (length l.store.row) t = (omega (arith, left, fits, same_long), omega (arith, below, same_long)) in

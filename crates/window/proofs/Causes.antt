@@ -1,4 +1,5 @@
 -- The library refuses a window's begin and step with numbers of its own: below 13, and never with 7 for a task that has a window.
+use Rattle.std.specs.Prelude.{Result, Ok, Err}
 use mathlib.Core.Path.{◌≡◌, refl, sym, subst}
 use mathlib.Core.Logic.{◌≢◌}
 use mathlib.Core.List.{List}
@@ -14,26 +15,20 @@ use Rattle.refusal.specs.declared.Refusal.{Refusal}
 use Rattle.refusal.specs.declared.Refusal.TheVariants as cause
 use Rattle.refusal.specs.Number.{number_of}
 use Rattle.cells.specs.Ceiling.{ceiling_of}
-use Rattle.cells.specs.declared.ceiling.Ceiling.{Ceiling}
-use Rattle.cells.specs.declared.ceiling.Ceiling.TheVariants as ceiling
 use Rattle.table.specs.declared.Shape.{Shape}
-use Rattle.table.specs.declared.Checked.{Checked}
-use Rattle.table.specs.declared.Checked.TheVariants as table
 use Rattle.table.specs.File.{shape_of}
 use Rattle.table.specs.Layout.{layout_of, file_fits, dimensions_fit, length_fits}
 use Rattle.table.specs.Entries.{entries_in_range}
 use Rattle.machine.specs.Calls.{Refused}
 use Rattle.records.specs.declared.record.Task.{Task}
-use Rattle.records.specs.declared.phase.PhaseRead.{PhaseRead}
-use Rattle.records.specs.declared.phase.PhaseRead.TheVariants as record_phase
 use Rattle.records.specs.Record.{read_record}
 use Rattle.records.proofs.Forms.{cause_read}
-use Rattle.stepping.specs.declared.answer.Begin.{Begin}
-use Rattle.stepping.specs.declared.call.Admitted.{Admitted}
-use Rattle.stepping.specs.declared.call.Admitted.TheVariants as admitted
+use Rattle.stepping.specs.Call.{Begin}
 use Rattle.stepping.specs.Step.{TaskOutcome}
 use Rattle.stepping.specs.Call.{begin_said, step_said, with_ceiling, with_row, admit_of, refuse_begin, begin_from, begin_in, begin_task, refuse_step, step_from, step_in, step_task}
 use Rattle.stepping.proofs.Judged.{known_says}
+use Rattle.records.specs.declared.phase.Phase.{Phase}
+use Rattle.stepping.specs.declared.call.Admission.{Admission}
 
 abbrev pub Own : ℕ → Type 0
 Own k = (k < 13) × (k ≢ 7)
@@ -43,17 +38,17 @@ own_same {j} {k} e = let same : j ≡ k = cc in subst Own same
 
 -- ---- The tests that begin and step share
 
-abbrev CheckedOwn : Checked → Type 0
-CheckedOwn (table.Accepted shape) = Unit {0}
-CheckedOwn (table.Refused c) = Own (number_of c)
+abbrev CheckedOwn : Result Shape Refusal → Type 0
+CheckedOwn (Ok shape) = Unit {0}
+CheckedOwn (Err c) = Own (number_of c)
 
-abbrev CeilingOwn : Ceiling → Type 0
-CeilingOwn (ceiling.Steps k) = Unit {0}
-CeilingOwn (ceiling.Refused c) = Own (number_of c)
+abbrev CeilingOwn : Result ℕ Refusal → Type 0
+CeilingOwn (Ok k) = Unit {0}
+CeilingOwn (Err c) = Own (number_of c)
 
-abbrev AdmittedOwn : Admitted → Type 0
-AdmittedOwn (admitted.Admits c shape) = Unit {0}
-AdmittedOwn (admitted.Refused c) = Own (number_of c)
+abbrev AdmittedOwn : Result Admission Refusal → Type 0
+AdmittedOwn (Ok found) = Unit {0}
+AdmittedOwn (Err c) = Own (number_of c)
 
 known : (k : ℕ) → k < 13 → k ≢ 7 → Own k
 known k h g = (h, g)
@@ -71,16 +66,16 @@ admit_own : (file : List ℕ) (n : ℕ) → AdmittedOwn (admit_of file n)
 unfolding admit_of ceiling_of
 admit_own file n = by (layout_of file) (layout_own file)
   where
-    over : (shape : Shape) (c : Ceiling) → CeilingOwn c → AdmittedOwn (with_ceiling shape c)
-    over shape (ceiling.Steps k) own = tt
-    over shape (ceiling.Refused c) own = own
+    over : (shape : Shape) (c : Result ℕ Refusal) → CeilingOwn c → AdmittedOwn (with_ceiling shape c)
+    over shape (Ok k) own = tt
+    over shape (Err c) own = own
 
-    by : (x : Checked) → CheckedOwn x → AdmittedOwn (with_row n x)
-    by (table.Accepted shape) own = over shape (ceiling_of n) (choice CeilingOwn (leb 1 n && leb n 8) _ _ tt (known 5 (omega arith) (λ e. omega (arith, e))))
-    by (table.Refused c) own = own
+    by : (x : Result Shape Refusal) → CheckedOwn x → AdmittedOwn (with_row n x)
+    by (Ok shape) own = over shape (ceiling_of n) (choice CeilingOwn (leb 1 n && leb n 8) _ _ tt (known 5 (omega arith) (λ e. omega (arith, e))))
+    by (Err c) own = own
 
 -- The cause of a record out of form.
-record_own : (shape : Shape) (n c : ℕ) (t : Task) (reason : Refusal) → read_record shape n c t ≡ record_phase.Refused reason → Own (number_of reason)
+record_own : (shape : Shape) (n c : ℕ) (t : Task) (reason : Refusal) → read_record shape n c t ≡ Err reason → Own (number_of reason)
 record_own shape n c t reason e = subst (λ (r : Refusal). Own (number_of r)) (sym (cause_read shape n c t reason e)) (known 11 (omega arith) (λ z. omega (arith, z)))
 
 -- ---- Begin
@@ -92,17 +87,17 @@ begin_refused : (t : Task) (c : Refusal) → Own (number_of c) → BeginsOwn (re
 begin_refused t c h = record { own = λ k e. own_same e h }
 
 module _ (file : List ℕ) (n i o : ℕ) (t : Task) (below : i < n) where
-  begin_from_lem : (shape : Shape) (c : ℕ) (read : PhaseRead) → read_record shape n c t ≡ read → BeginsOwn (begin_from file shape o t read)
-  begin_from_lem shape c (record_phase.Refused reason) e = begin_refused t reason (record_own shape n c t reason e)
-  begin_from_lem shape c (record_phase.Known f) e =
+  begin_from_lem : (shape : Shape) (c : ℕ) (read : Result Phase Refusal) → read_record shape n c t ≡ read → BeginsOwn (begin_from file shape o t read)
+  begin_from_lem shape c (Err reason) e = begin_refused t reason (record_own shape n c t reason e)
+  begin_from_lem shape c (Ok f) e =
       choice BeginsOwn (eqb t.phase 0) _ _ (record { own = λ k z. never cc }) (begin_refused t cause.Pending (known 9 (omega arith) (λ z. omega (arith, z))))
 
-  begin_in_lem : (x : Admitted) → AdmittedOwn x → BeginsOwn (begin_in file n i o t x)
-  begin_in_lem (admitted.Refused c) h = begin_refused t c h
-  begin_in_lem (admitted.Admits c shape) h =
+  begin_in_lem : (x : Result Admission Refusal) → AdmittedOwn x → BeginsOwn (begin_in file n i o t x)
+  begin_in_lem (Err c) h = begin_refused t c h
+  begin_in_lem (Ok found) h =
       choice_by BeginsOwn (ltb i n)
-      (λ _. choice BeginsOwn (ltb o shape.operations) _ _
-      (choice BeginsOwn (entries_in_range file shape) _ _ (begin_from_lem shape c (read_record shape n c t) refl) (begin_refused t cause.NextState (known 4 (omega arith) (λ z. omega (arith, z)))))
+      (λ _. choice BeginsOwn (ltb o found.shape.operations) _ _
+      (choice BeginsOwn (entries_in_range file found.shape) _ _ (begin_from_lem found.shape found.ceiling (read_record found.shape n found.ceiling t) refl) (begin_refused t cause.NextState (known 4 (omega arith) (λ z. omega (arith, z)))))
       (begin_refused t cause.Operation (known 8 (omega arith) (λ z. omega (arith, z)))))
       (λ z. absurd (omega (arith, ltb-false i n z)))
 
@@ -119,16 +114,16 @@ step_refused : (cells : List ℕ) (t : Task) (c : Refusal) → Own (number_of c)
 step_refused cells t c h = record { own = λ k e. own_same e h }
 
 module _ (file cells : List ℕ) (n i : ℕ) (t : Task) (below : i < n) where
-  step_from_lem : (shape : Shape) (c : ℕ) (read : PhaseRead) → read_record shape n c t ≡ read → StepsOwn (step_from file shape cells n i t read)
-  step_from_lem shape c (record_phase.Refused reason) e = step_refused cells t reason (record_own shape n c t reason e)
-  step_from_lem shape c (record_phase.Known f) e =
+  step_from_lem : (shape : Shape) (c : ℕ) (read : Result Phase Refusal) → read_record shape n c t ≡ read → StepsOwn (step_from file shape cells n i t read)
+  step_from_lem shape c (Err reason) e = step_refused cells t reason (record_own shape n c t reason e)
+  step_from_lem shape c (Ok f) e =
       record { own = known_says file shape cells n i t f Own (known 10 (omega arith) (λ z. omega (arith, z))) (known 4 (omega arith) (λ z. omega (arith, z))) (known 12 (omega arith) (λ z. omega (arith, z))) }
 
-  step_in_lem : (x : Admitted) → AdmittedOwn x → StepsOwn (step_in file cells n i t x)
-  step_in_lem (admitted.Refused c) h = step_refused cells t c h
-  step_in_lem (admitted.Admits c shape) h =
+  step_in_lem : (x : Result Admission Refusal) → AdmittedOwn x → StepsOwn (step_in file cells n i t x)
+  step_in_lem (Err c) h = step_refused cells t c h
+  step_in_lem (Ok found) h =
       choice StepsOwn (eqb (length cells) (n + 1)) _ _
-      (choice_by StepsOwn (ltb i n) (λ _. step_from_lem shape c (read_record shape n c t) refl) (λ z. absurd (omega (arith, ltb-false i n z))))
+      (choice_by StepsOwn (ltb i n) (λ _. step_from_lem found.shape found.ceiling (read_record found.shape n found.ceiling t) refl) (λ z. absurd (omega (arith, ltb-false i n z))))
       (step_refused cells t cause.Cells (known 6 (omega arith) (λ z. omega (arith, z))))
 
   pub step_own : (k : ℕ) → step_said (step_task file cells n i t).answer ≡ Refused k → Own k

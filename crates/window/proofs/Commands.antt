@@ -1,4 +1,5 @@
 -- A window call by its tests: one case for each command, with the facts that the tests found.
+use Rattle.std.specs.Prelude.{Result, Ok, Err, ⊤}
 use mathlib.Core.Path.{◌≡◌, refl, sym, ap, ◌∙◌}
 use mathlib.Core.Bool.{true, false}
 use mathlib.Core.List.{List}
@@ -11,23 +12,20 @@ use lib.ListN.{length}
 use Rattle.laws.proofs.Choice.{choice_by}
 use Rattle.laws.proofs.Clash.{clash}
 use Rattle.refusal.specs.declared.Refusal.TheVariants as cause
-use Rattle.window.specs.declared.WindowAnswer.{WindowAnswer}
-use Rattle.window.specs.declared.WindowAnswer.TheVariants as window
-use Rattle.window.specs.declared.Place.{Place}
-use Rattle.window.specs.declared.Place.TheVariants as place
 use Rattle.window.specs.declared.Work.{Work}
 use Rattle.window.specs.Window.{byte_at, status_at, place_of}
 use Rattle.window.specs.Written.{refused_in, acknowledged_in}
 use Rattle.window.specs.Serve.{Asked, Settled, Begins, Steps, refused_command, commanded, asked_in, asked_of}
 use Rattle.window.specs.Line.{line_in, line_of}
 use Rattle.window.specs.Work.{work_of, settled_answer, settled_windows}
+use Rattle.refusal.specs.declared.Refusal.{Refusal}
 
 -- ---- Where a task has a window
 
-pub data Placed (windows : List ℕ) (n t : ℕ) : Place → Type 0 where
-  inside : length windows ≡ 8 * n → t < n → Placed windows n t place.Inside
-  past : length windows ≡ 8 * n → n ≤ t → Placed windows n t (place.Refused cause.Task)
-  unfit : length windows ≢ 8 * n → Placed windows n t (place.Refused cause.Window)
+pub data Placed (windows : List ℕ) (n t : ℕ) : Result ⊤ Refusal → Type 0 where
+  inside : length windows ≡ 8 * n → t < n → Placed windows n t (Ok tt)
+  past : length windows ≡ 8 * n → n ≤ t → Placed windows n t (Err cause.Task)
+  unfit : length windows ≢ 8 * n → Placed windows n t (Err cause.Window)
 
 pub placed : (windows : List ℕ) (n t : ℕ) → Placed windows n t (place_of windows n t)
 placed windows n t =
@@ -36,21 +34,21 @@ placed windows n t =
     (λ e. unfit (eqb-false _ _ e))
 
 module _ (windows : List ℕ) (n t : ℕ) where
-  pub place_unfit : length windows ≢ 8 * n → place.Refused cause.Window ≡ place_of windows n t
+  pub place_unfit : length windows ≢ 8 * n → Err cause.Window ≡ place_of windows n t
   place_unfit h = simp (ne_eqb (length windows) (8 * n) h)
 
-  pub place_past : length windows ≡ 8 * n → n ≤ t → place.Refused cause.Task ≡ place_of windows n t
+  pub place_past : length windows ≡ 8 * n → n ≤ t → Err cause.Task ≡ place_of windows n t
   place_past e h = simp (eq-eqb (length windows) (8 * n) e, le-ltb t n h)
 
-  pub place_inside : length windows ≡ 8 * n → t < n → place.Inside ≡ place_of windows n t
+  pub place_inside : length windows ≡ 8 * n → t < n → (Ok tt) ≡ place_of windows n t
   place_inside e h = simp (eq-eqb (length windows) (8 * n) e, lt-ltb t n h)
 
   -- What is answered at the place that was found.
-  pub asked_at : {p found : Place} → p ≡ place_of windows n t → p ≡ found → asked_in windows t found ≡ asked_of windows n t
+  pub asked_at : {p found : (Result ⊤ Refusal)} → p ≡ place_of windows n t → p ≡ found → asked_in windows t found ≡ asked_of windows n t
   unfolding asked_of
   asked_at e f = ap (asked_in windows t) (sym f ∙ e)
 
-  pub line_at : {p found : Place} → p ≡ place_of windows n t → p ≡ found → line_in windows t found ≡ line_of windows n t
+  pub line_at : {p found : (Result ⊤ Refusal)} → p ≡ place_of windows n t → p ≡ found → line_in windows t found ≡ line_of windows n t
   unfolding line_of
   line_at e f = ap (line_in windows t) (sym f ∙ e)
 
@@ -58,11 +56,11 @@ module _ (windows : List ℕ) (n t : ℕ) where
 
 module _ (windows : List ℕ) (t : ℕ) where
   pub data Command (k : ℕ) : Asked → Type 0 where
-    nothing : k ≡ 0 → Command k (Settled window.Served windows)
+    nothing : k ≡ 0 → Command k (Settled (Ok tt) windows)
     begins : k ≡ 1 → (status_at windows t).done ≡ false → Command k (Begins (byte_at windows t 0))
     unacknowledged : k ≡ 1 → (status_at windows t).done ≡ true → Command k (refused_command windows t cause.Unacknowledged)
     steps : k ≡ 2 → Command k Steps
-    acknowledges : k ≡ 3 → Command k (Settled window.Served (acknowledged_in windows t))
+    acknowledges : k ≡ 3 → Command k (Settled (Ok tt) (acknowledged_in windows t))
     unknown : 3 < k → Command k (refused_command windows t cause.Window)
 
   pub command : (k : ℕ) → Command k (commanded windows t k)
@@ -100,19 +98,19 @@ module _ (windows : List ℕ) (t : ℕ) where
       by (unknown l) h g = refl
 
   -- The windows and the answer where no call is made.
-  abbrev SettledAs : List ℕ → WindowAnswer → ℕ → Type 0
+  abbrev SettledAs : List ℕ → Result ⊤ Refusal → ℕ → Type 0
   SettledAs left answer k = (left ≡ settled_windows windows (commanded windows t k)) × (answer ≡ settled_answer (commanded windows t k))
 
-  pub settled_acknowledged : {k : ℕ} → k ≡ 3 → SettledAs (acknowledged_in windows t) window.Served k
+  pub settled_acknowledged : {k : ℕ} → k ≡ 3 → SettledAs (acknowledged_in windows t) (Ok tt) k
   settled_acknowledged e = rw e (refl, refl)
 
-  pub settled_unacknowledged : {k : ℕ} → k ≡ 1 → (status_at windows t).done ≡ true → SettledAs (refused_in windows t cause.Unacknowledged) (window.Refused cause.Unacknowledged) k
+  pub settled_unacknowledged : {k : ℕ} → k ≡ 1 → (status_at windows t).done ≡ true → SettledAs (refused_in windows t cause.Unacknowledged) (Err cause.Unacknowledged) k
   settled_unacknowledged e d = rw (e, d) (refl, refl)
 
-  pub settled_unknown : {k : ℕ} → 3 < k → SettledAs (refused_in windows t cause.Window) (window.Refused cause.Window) k
+  pub settled_unknown : {k : ℕ} → 3 < k → SettledAs (refused_in windows t cause.Window) (Err cause.Window) k
   settled_unknown {k} h = by (command k) h
     where
-      by : {j : ℕ} {a : Asked} → Command j a → 3 < j → (refused_in windows t cause.Window ≡ settled_windows windows a) × (window.Refused cause.Window ≡ settled_answer a)
+      by : {j : ℕ} {a : Asked} → Command j a → 3 < j → (refused_in windows t cause.Window ≡ settled_windows windows a) × (Err cause.Window ≡ settled_answer a)
       by (nothing e) h = absurd (omega arith)
       by (begins e d) h = absurd (omega arith)
       by (unacknowledged e d) h = absurd (omega arith)
@@ -121,10 +119,10 @@ module _ (windows : List ℕ) (t : ℕ) where
       by (unknown l) h = (refl, refl)
 
   -- Every other command leaves the windows to a call, or as they are.
-  pub settled_left : {k : ℕ} → k ≤ 3 → k ≢ 3 → (k ≡ 1 → (status_at windows t).done ≡ false) → SettledAs windows window.Served k
+  pub settled_left : {k : ℕ} → k ≤ 3 → k ≢ 3 → (k ≡ 1 → (status_at windows t).done ≡ false) → SettledAs windows (Ok tt) k
   settled_left {k} l h g = by (command k) l h g
     where
-      by : {j : ℕ} {a : Asked} → Command j a → j ≤ 3 → j ≢ 3 → (j ≡ 1 → (status_at windows t).done ≡ false) → (windows ≡ settled_windows windows a) × (window.Served ≡ settled_answer a)
+      by : {j : ℕ} {a : Asked} → Command j a → j ≤ 3 → j ≢ 3 → (j ≡ 1 → (status_at windows t).done ≡ false) → (windows ≡ settled_windows windows a) × ((Ok tt) ≡ settled_answer a)
       by (nothing e) l h g = (refl, refl)
       by (begins e d) l h g = (refl, refl)
       by (unacknowledged e d) l h g = clash d (g e)

@@ -1,4 +1,5 @@
 -- Theorem C: what the window of a task tells, after all events that leave it to its console.
+use Rattle.std.specs.Prelude.{Result, Ok, Err, ⊤}
 use mathlib.Core.Path.{◌≡◌, refl, sym, ap, subst, ◌∙◌}
 use mathlib.Core.Logic.{◌≢◌, ◌⊎◌, inl, inr}
 use mathlib.Core.Bool.{Bool, true, false, ◌||◌, or-true}
@@ -23,8 +24,6 @@ use Rattle.stepping.specs.Opening.{Opening, shown}
 use Rattle.stepping.proofs.Continued.{pending_more}
 use Rattle.stepping.proofs.Theorem.{demands_met, in_form_throughout}
 use Rattle.window.specs.declared.Status.{Status}
-use Rattle.window.specs.declared.WindowAnswer.{WindowAnswer}
-use Rattle.window.specs.declared.WindowAnswer.TheVariants as window
 use Rattle.window.specs.Window.{byte_at, on, status_of, status_at, interrupt_at}
 use Rattle.window.specs.Serve.{asked_of, WindowOutcome, window_of}
 use Rattle.window.specs.Events.{WindowEvent, Written, Served, Direct, WindowStore, opened, happen, after, call_by, call_at, calls_of}
@@ -183,7 +182,7 @@ module _ {file : List ℕ} {n q : ℕ} {s : Store} (o : Opening file n q s) (win
     ws = (lent es).windows
 
     -- It is noted by the answers.
-    note_is : (made : List Call) (a : WindowAnswer) → call_at (Served t) (lent es) ≡ made → (window_of file (lent es).store.cells (lent es).store.row (lent es).windows t).answer ≡ a
+    note_is : (made : List Call) (a : Result ⊤ Refusal) → call_at (Served t) (lent es) ≡ made → (window_of file (lent es).store.cells (lent es).store.row (lent es).windows t).answer ≡ a
         → note_of file t (Served t) (lent es) ≡ noted (byte_at (lent es).windows t 1) a (history_of file made (lent es).store)
     note_is made a em ea = simp (eq-eqb t t refl) (ap (λ xs. noted (byte_at ws t 1) (window_of file cs ys ws t).answer (history_of file xs (lent es).store)) em ∙ ap (λ z. noted (byte_at ws t 1) z (history_of file made (lent es).store)) ea)
 
@@ -191,11 +190,11 @@ module _ {file : List ℕ} {n q : ℕ} {s : Store} (o : Opening file n q s) (win
     long_next = (others_stay file cs ys ws t).long ∙ old.long
 
     -- A refused command: it has made no call, or one that tells no more.
-    marks : (c : Refusal) → HasWindow (lent es).windows (length (lent es).store.row) t → (out : WindowOutcome) → window_of file (lent es).store.cells (lent es).store.row (lent es).windows t ≡ out → out.answer ≡ window.Refused c
+    marks : (c : Refusal) → HasWindow (lent es).windows (length (lent es).store.row) t → (out : WindowOutcome) → window_of file (lent es).store.cells (lent es).store.row (lent es).windows t ≡ out → out.answer ≡ Err c
         → Shows out.windows t (status_at (lent es).windows t).busy (status_at (lent es).windows t).done true (status_at (lent es).windows t).moved true (byte_at (lent es).windows t 3) (number_of c)
         → is_pending (pending (told (es ++ (Served t ∷ []))) t) ≡ is_pending (pending (told es) t) → last_ended t no_outcome (told (es ++ (Served t ∷ []))) ≡ last_ended t no_outcome (told es) → Holds (es ++ (Served t ∷ []))
     marks c has out eo ea shows ep ev =
-        next es (Served t) old (Refusing (number_of c)) (note_is _ (window.Refused c) refl (ap (λ (z : WindowOutcome). z.answer) eo ∙ ea)) (last_ended t no_outcome (told es)) ev long_next
+        next es (Served t) old (Refusing (number_of c)) (note_is _ (Err c) refl (ap (λ (z : WindowOutcome). z.answer) eo ∙ ea)) (last_ended t no_outcome (told es)) ev long_next
         (subst (λ (z : WindowOutcome). Shows z.windows t (is_pending (pending (told (es ++ (Served t ∷ []))) t)) (status_at ws t).done true (last_ended t no_outcome (told es)).moved ((status_at ws t).done || true) (last_ended t no_outcome (told es)).response (number_of c)) (sym eo)
         (record {
           busy_bit = shows.busy_bit ∙ old.busy ∙ sym ep;
@@ -263,7 +262,7 @@ module _ {file : List ℕ} {n q : ℕ} {s : Store} (o : Opening file n q s) (win
         let call = none (λ e. omega (arith, z, e)) (λ e. absurd (omega (arith, z, e))) in
         let (ep, ev) = tells_none es (Served t) old call in
         let left = ap (λ (x : WindowOutcome). x.windows) eo in
-        quiet es (Served t) old (note_is [] window.Served call (ap (λ (x : WindowOutcome). x.answer) eo) ∙ noted_served (byte_at ws t 1) [] (λ e. omega (arith, z, e))) ep ev (ap length left) (λ k l m. ap (λ x. byte_at x t k) left)
+        quiet es (Served t) old (note_is [] (Ok tt) call (ap (λ (x : WindowOutcome). x.answer) eo) ∙ noted_served (byte_at ws t 1) [] (λ e. omega (arith, z, e))) ep ev (ap length left) (λ k l m. ap (λ x. byte_at x t k) left)
     own_holds (unknown h z) eo =
         let (ep, ev) = tells_none es (Served t) old (none (λ e. omega (arith, z, e)) (λ e. absurd (omega (arith, z, e)))) in
         marks cause.Window h _ eo refl (shows_refused ws t (inside ws (length ys) t h) cause.Window) ep ev
@@ -271,7 +270,7 @@ module _ {file : List ℕ} {n q : ℕ} {s : Store} (o : Opening file n q s) (win
         let call = none (λ e. omega (arith, z, e)) (λ e. absurd (omega (arith, z, e))) in
         let (ep, ev) = tells_none es (Served t) old call in
         let shows = shows_acknowledged ws t (inside ws (length ys) t h) in
-        next es (Served t) old Acknowledging (note_is [] window.Served call (ap (λ (x : WindowOutcome). x.answer) eo) ∙ simp (eq-eqb (byte_at ws t 1) 3 z)) (last_ended t no_outcome (told es)) ev long_next
+        next es (Served t) old Acknowledging (note_is [] (Ok tt) call (ap (λ (x : WindowOutcome). x.answer) eo) ∙ simp (eq-eqb (byte_at ws t 1) 3 z)) (last_ended t no_outcome (told es)) ev long_next
         (subst (λ (x : WindowOutcome). Shows x.windows t (is_pending (pending (told (es ++ (Served t ∷ []))) t)) false false (last_ended t no_outcome (told es)).moved false (last_ended t no_outcome (told es)).response (byte_at ws t 4)) (sym eo)
         (as_before shows (old.busy ∙ sym ep)))
     own_holds (unacknowledged h z d) eo =
@@ -282,7 +281,7 @@ module _ {file : List ℕ} {n q : ℕ} {s : Store} (o : Opening file n q s) (win
         let call = begin_call h z d in
         let shows = shows_begun ws t (inside ws (length ys) t h) in
         let now = begun_now call (sym (answer_shown es x) ∙ ap begin_said a) in
-        next es (Served t) old Other (note_is (x ∷ []) window.Served call (ap (λ (y : WindowOutcome). y.answer) eo) ∙ noted_served (byte_at ws t 1) (history_of file (x ∷ []) (lent es).store) (λ e. omega (arith, z, e)) ∙ ap (λ y. ending_of (begin_said y)) a)
+        next es (Served t) old Other (note_is (x ∷ []) (Ok tt) call (ap (λ (y : WindowOutcome). y.answer) eo) ∙ noted_served (byte_at ws t 1) (history_of file (x ∷ []) (lent es).store) (λ e. omega (arith, z, e)) ∙ ap (λ y. ending_of (begin_said y)) a)
         (last_ended t no_outcome (told es)) (ended_call es (Served t) x call) long_next
         (subst (λ (y : WindowOutcome). Shows y.windows t (is_pending (pending (told (es ++ (Served t ∷ []))) t)) (status_at ws t).done (status_at ws t).refused (last_ended t no_outcome (told es)).moved ((status_at ws t).done || (status_at ws t).refused) (last_ended t no_outcome (told es)).response (byte_at ws t 4)) (sym eo)
         (with_interrupt (as_before shows (sym now))))
@@ -297,7 +296,7 @@ module _ {file : List ℕ} {n q : ℕ} {s : Store} (o : Opening file n q s) (win
         let answer = sym (answer_shown es (Step t)) ∙ ap step_said a in
         let shows = shows_taken ws t (inside ws (length ys) t h) in
         let now = running_now call answer in
-        next es (Served t) old Other (note_is (Step t ∷ []) window.Served call (ap (λ (y : WindowOutcome). y.answer) eo) ∙ noted_served (byte_at ws t 1) (history_of file (Step t ∷ []) (lent es).store) (λ e. omega (arith, z, e)) ∙ ap (λ y. ending_of (step_said y)) a)
+        next es (Served t) old Other (note_is (Step t ∷ []) (Ok tt) call (ap (λ (y : WindowOutcome). y.answer) eo) ∙ noted_served (byte_at ws t 1) (history_of file (Step t ∷ []) (lent es).store) (λ e. omega (arith, z, e)) ∙ ap (λ y. ending_of (step_said y)) a)
         (last_ended t no_outcome (told es)) (ended_call es (Served t) (Step t) call ∙ ap (λ y. ended_by t (Step t) y (last_ended t no_outcome (told es))) answer) long_next
         (subst (λ (y : WindowOutcome). Shows y.windows t (is_pending (pending (told (es ++ (Served t ∷ []))) t)) (status_at ws t).done (status_at ws t).refused (last_ended t no_outcome (told es)).moved ((status_at ws t).done || (status_at ws t).refused) (last_ended t no_outcome (told es)).response (byte_at ws t 4)) (sym eo)
         (with_interrupt (as_before shows (old.busy ∙ sym now))))
@@ -308,7 +307,7 @@ module _ {file : List ℕ} {n q : ℕ} {s : Store} (o : Opening file n q s) (win
         let shows = shows_ended ws t (inside ws (length ys) t h) r v in
         let fits = response_fits o (calls es) t out k answer in
         let (now, last) = ended_now call out k answer in
-        next es (Served t) old Ending (note_is (Step t ∷ []) window.Served call (ap (λ (y : WindowOutcome). y.answer) eo) ∙ noted_served (byte_at ws t 1) (history_of file (Step t ∷ []) (lent es).store) (λ e. omega (arith, z, e)) ∙ ap (λ y. ending_of (step_said y)) a) out last long_next
+        next es (Served t) old Ending (note_is (Step t ∷ []) (Ok tt) call (ap (λ (y : WindowOutcome). y.answer) eo) ∙ noted_served (byte_at ws t 1) (history_of file (Step t ∷ []) (lent es).store) (λ e. omega (arith, z, e)) ∙ ap (λ y. ending_of (step_said y)) a) out last long_next
         (subst (λ (y : WindowOutcome). Shows y.windows t (is_pending (pending (told (es ++ (Served t ∷ []))) t)) true (status_at ws t).refused v true r (byte_at ws t 4)) (sym eo)
         (record {
           busy_bit = shows.busy_bit ∙ sym now;

@@ -1,4 +1,5 @@
 -- When a window call is refused with 18, 7 and 17, which direct call it makes, and when a line is up: exactly as the statements say.
+use Rattle.std.specs.Prelude.{Result, Ok, Err, ⊤}
 use mathlib.Core.Path.{◌≡◌, refl, sym, ap, ◌∙◌}
 use mathlib.Core.Logic.{◌↔◌, ◌≢◌, ◌⊎◌, inl, inr}
 use mathlib.Core.Bool.{Bool, true, false, cond}
@@ -13,11 +14,7 @@ use Rattle.refusal.specs.Number.{number_of, Said, refused_by}
 use Rattle.refusal.proofs.Numbers.{numbers_apart, values_same}
 use Rattle.machine.specs.Calls.{Begin, Step, Refused}
 use Rattle.records.specs.declared.record.Task.{Task}
-use Rattle.stepping.specs.declared.answer.BeginAnswer.TheVariants as begin
-use Rattle.stepping.specs.declared.answer.StepAnswer.TheVariants as step
 use Rattle.stepping.specs.Call.{begin_said, step_said, task_at, begin_of, step_of}
-use Rattle.window.specs.declared.Place.{Place}
-use Rattle.window.specs.declared.LineAnswer.TheVariants as line
 use Rattle.window.specs.Window.{byte_at, status_at, interrupt_at, mask_at}
 use Rattle.window.specs.Serve.{window_said, Asked, asked_in, asked_of, WindowOutcome, made, window_of}
 use Rattle.window.specs.Line.{line_in, line_of}
@@ -27,15 +24,17 @@ use Rattle.window.proofs.Commands as found
 use Rattle.window.proofs.Commands.{Placed, placed, place_unfit, place_past, Command, command}
 use Rattle.window.proofs.Causes.{Own, begin_own, step_own}
 use Rattle.window.proofs.Cases.{Case, unfit, past, nothing, unknown, acknowledged, unacknowledged, begun, begin_refused, running, ended, step_refused, cases}
+use Rattle.stepping.specs.declared.answer.Progress.TheVariants as progress
+use Rattle.window.specs.declared.LineLevel.TheVariants as line
 
 -- ---- The numbers
 
 -- A begin and a step of a task that has a window are refused with numbers of the library's own.
-begin_number : (file : List ℕ) (row : List Task) (t o : ℕ) (c : Refusal) → t < length row → (begin_of file row t o).answer ≡ begin.Refused c → Own (number_of c)
+begin_number : (file : List ℕ) (row : List Task) (t o : ℕ) (c : Refusal) → t < length row → (begin_of file row t o).answer ≡ Err c → Own (number_of c)
 unfolding begin_of
 begin_number file row t o c below e = begin_own file (length row) t o (task_at row t) below (number_of c) (ap begin_said e)
 
-step_number : (file cells : List ℕ) (row : List Task) (t : ℕ) (c : Refusal) → t < length row → (step_of file cells row t).answer ≡ step.Refused c → Own (number_of c)
+step_number : (file cells : List ℕ) (row : List Task) (t : ℕ) (c : Refusal) → t < length row → (step_of file cells row t).answer ≡ Err c → Own (number_of c)
 unfolding step_of
 step_number file cells row t c below e = step_own file cells (length row) t (task_at row t) below (number_of c) (ap step_said e)
 
@@ -143,7 +142,7 @@ module _ (windows : List ℕ) (n t : ℕ) where
   unfolding asked_of
   begin_made o = by (placed windows n t)
     where
-      by : {p : Place} → Placed windows n t p → (call_by t (asked_in windows t p) ≡ Begin t o ∷ []) ↔ (HasWindow windows n t × (byte_at windows t 1 ≡ 1) × ((status_at windows t).done ≡ false) × (o ≡ byte_at windows t 0))
+      by : {p : (Result ⊤ Refusal)} → Placed windows n t p → (call_by t (asked_in windows t p) ≡ Begin t o ∷ []) ↔ (HasWindow windows n t × (byte_at windows t 1 ≡ 1) × ((status_at windows t).done ≡ false) × (o ≡ byte_at windows t 0))
       by (found.inside long below) = let (f, g) = begins_by (command windows t (byte_at windows t 1)) o in ((λ z. let (one, done, same) = f z in ((long, below), one, done, same)), λ (_, one, done, same). g (one, done, same))
       by (found.past long above) = ((λ z. never cc), λ z. absurd (omega (arith, z.0.1, above)))
       by (found.unfit h) = ((λ z. never cc), λ z. absurd (h z.0.0))
@@ -152,7 +151,7 @@ module _ (windows : List ℕ) (n t : ℕ) where
   unfolding asked_of
   step_made = by (placed windows n t)
     where
-      by : {p : Place} → Placed windows n t p → (call_by t (asked_in windows t p) ≡ Step t ∷ []) ↔ (HasWindow windows n t × (byte_at windows t 1 ≡ 2))
+      by : {p : (Result ⊤ Refusal)} → Placed windows n t p → (call_by t (asked_in windows t p) ≡ Step t ∷ []) ↔ (HasWindow windows n t × (byte_at windows t 1 ≡ 2))
       by (found.inside long below) = let (f, g) = steps_by (command windows t (byte_at windows t 1)) in ((λ z. ((long, below), f z)), λ (_, z). g z)
       by (found.past long above) = ((λ z. never cc), λ ((_, below), _). absurd (omega (arith, below, above)))
       by (found.unfit h) = ((λ z. never cc), λ ((long, _), _). absurd (h long))
@@ -161,7 +160,7 @@ module _ (windows : List ℕ) (n t : ℕ) where
   unfolding asked_of
   none_made = by (placed windows n t)
     where
-      by : {p : Place} → Placed windows n t p → (call_by t (asked_in windows t p) ≡ []) ↔ (HasWindow windows n t → (byte_at windows t 1 ≢ 2) × (byte_at windows t 1 ≡ 1 → (status_at windows t).done ≡ true))
+      by : {p : (Result ⊤ Refusal)} → Placed windows n t p → (call_by t (asked_in windows t p) ≡ []) ↔ (HasWindow windows n t → (byte_at windows t 1 ≢ 2) × (byte_at windows t 1 ≡ 1 → (status_at windows t).done ≡ true))
       by (found.inside long below) = let (f, g) = none_by (command windows t (byte_at windows t 1)) in ((λ z _. f z), λ h. g (h (long, below)))
       by (found.past long above) = ((λ _ has. absurd (omega (arith, has.1, above))), λ _. refl)
       by (found.unfit h) = ((λ _ has. absurd (h has.0)), λ _. refl)
@@ -170,7 +169,7 @@ module _ (windows : List ℕ) (n t : ℕ) where
 
   -- A task that has no window.
   line_refused : (c : Refusal) → number_of c ≢ 0 → ((number_of c ≡ 18) ↔ (length windows ≢ 8 * n)) → ((number_of c ≡ 7) ↔ ((length windows ≡ 8 * n) × (n ≤ t))) → (HasWindow windows n t → ⊥)
-      → LineSays windows n t (line.Refused c)
+      → LineSays windows n t (Err c)
   line_refused c some (u, u') (p, p') none = record {
     unfit = ((λ e. u (number_is e)), λ h. ap refused_by (u' h));
     past = ((λ e. p (number_is e)), λ h. ap refused_by (p' h));
@@ -179,7 +178,7 @@ module _ (windows : List ℕ) (n t : ℕ) where
   }
 
   -- A task that has one, by its two bits.
-  line_down : HasWindow windows n t → ((interrupt_at windows t ≡ true) × (mask_at windows t ≡ false) → ⊥) → (interrupt_at windows t ≡ true → mask_at windows t ≡ true) → LineSays windows n t line.Down
+  line_down : HasWindow windows n t → ((interrupt_at windows t ≡ true) × (mask_at windows t ≡ false) → ⊥) → (interrupt_at windows t ≡ true → mask_at windows t ≡ true) → LineSays windows n t (Ok line.Down)
   line_down has not_up down = record {
     unfit = ((λ e. absurd (numbers_apart e (λ z. omega (arith, z)))), λ h. absurd (h has.0));
     past = ((λ e. absurd (numbers_apart e (λ z. omega (arith, z)))), λ (_, above). absurd (omega (arith, has.1, above)));
@@ -187,7 +186,7 @@ module _ (windows : List ℕ) (n t : ℕ) where
     down = ((λ _. (has, down)), λ _. refl);
   }
 
-  line_inside : HasWindow windows n t → (i m : Bool) → interrupt_at windows t ≡ i → mask_at windows t ≡ m → LineSays windows n t (cond (cond m false i) line.Up line.Down)
+  line_inside : HasWindow windows n t → (i m : Bool) → interrupt_at windows t ≡ i → mask_at windows t ≡ m → LineSays windows n t (cond (cond m false i) (Ok line.Up) (Ok line.Down))
   line_inside has true false i m = record {
     unfit = ((λ e. absurd (numbers_apart e (λ z. omega (arith, z)))), λ h. absurd (h has.0));
     past = ((λ e. absurd (numbers_apart e (λ z. omega (arith, z)))), λ (_, above). absurd (omega (arith, has.1, above)));
@@ -202,7 +201,7 @@ module _ (windows : List ℕ) (n t : ℕ) where
   unfolding line_of
   line_judged = by (placed windows n t)
     where
-      by : {p : Place} → Placed windows n t p → LineSays windows n t (line_in windows t p)
+      by : {p : (Result ⊤ Refusal)} → Placed windows n t p → LineSays windows n t (line_in windows t p)
       by (found.inside long below) = line_inside (long, below) (interrupt_at windows t) (mask_at windows t) refl refl
       by (found.past long above) =
           line_refused cause.Task (λ z. omega (arith, z)) ((λ z. absurd (omega (arith, z))), λ h. absurd (h long)) ((λ _. (long, above)), λ _. refl) (λ (_, below). omega (arith, below, above))

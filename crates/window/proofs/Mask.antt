@@ -1,4 +1,5 @@
 -- The mask changes nothing else: a call on windows with another mask leaves and answers the same, but for that byte.
+use Rattle.std.specs.Prelude.{Result, Ok, Err, ⊤}
 use mathlib.Core.Path.{◌≡◌, refl, sym, ap, ◌∙◌}
 use mathlib.Core.Logic.{◌≢◌}
 use mathlib.Core.Bool.{Bool, cond}
@@ -11,20 +12,15 @@ use lib.Seq.{get_or-set_other, set_comm}
 use Rattle.refusal.specs.declared.Refusal.{Refusal}
 use Rattle.refusal.specs.declared.Refusal.TheVariants as cause
 use Rattle.records.specs.declared.record.Task.{Task}
-use Rattle.stepping.specs.declared.answer.BeginAnswer.{BeginAnswer}
-use Rattle.stepping.specs.declared.answer.BeginAnswer.TheVariants as begin
-use Rattle.stepping.specs.declared.answer.StepAnswer.{StepAnswer}
-use Rattle.stepping.specs.declared.answer.StepAnswer.TheVariants as step
 use Rattle.stepping.specs.Call.{begin_of, step_of}
-use Rattle.window.specs.declared.WindowAnswer.TheVariants as window
-use Rattle.window.specs.declared.Place.{Place}
-use Rattle.window.specs.declared.Place.TheVariants as place
 use Rattle.window.specs.Window.{byte_at, with_byte, status_of, status_at, place_of}
 use Rattle.window.specs.Written.{taken, refused_in, begun_in, ended_in, acknowledged_in, after_begin, after_step}
 use Rattle.window.specs.Serve.{Asked, Settled, Begins, Steps, refused_command, commanded, asked_in, asked_of, made, window_of}
 use Rattle.window.specs.Statement.{MaskFree}
 use Rattle.window.proofs.Bytes.{Bytes, bytes_at, with_bytes, taken_bytes, begun_bytes, refused_bytes, ended_bytes, acknowledged_bytes, taken_bytes_lem, begun_bytes_lem, refused_bytes_lem, acknowledged_bytes_lem, ended_bytes_lem}
 use Rattle.window.proofs.Commands.{Command, nothing, begins, unacknowledged, steps, acknowledges, unknown, command}
+use Rattle.stepping.specs.declared.answer.Progress.{Progress}
+use Rattle.stepping.specs.declared.answer.Progress.TheVariants as progress
 
 module _ (windows : List ℕ) (u byte t : ℕ) where
   -- No byte of a window but 6 is a mask.
@@ -71,14 +67,14 @@ module _ (windows : List ℕ) (u byte t : ℕ) where
   refused_beside : (c : Refusal) → refused_in (with_byte windows u 6 byte) t c ≡ with_byte (refused_in windows t c) u 6 byte
   refused_beside c = beside (λ w. refused_in w t c) (refused_bytes c) (λ w. refused_bytes_lem w t c)
 
-  begin_beside : (a : BeginAnswer) → after_begin (with_byte windows u 6 byte) t a ≡ with_byte (after_begin windows t a) u 6 byte
-  begin_beside begin.Begun = beside (λ w. begun_in w t) begun_bytes (λ w. begun_bytes_lem w t)
-  begin_beside (begin.Refused c) = refused_beside c
+  begin_beside : (a : Result ⊤ Refusal) → after_begin (with_byte windows u 6 byte) t a ≡ with_byte (after_begin windows t a) u 6 byte
+  begin_beside (Ok tt) = beside (λ w. begun_in w t) begun_bytes (λ w. begun_bytes_lem w t)
+  begin_beside (Err c) = refused_beside c
 
-  step_beside : (a : StepAnswer) → after_step (with_byte windows u 6 byte) t a ≡ with_byte (after_step windows t a) u 6 byte
-  step_beside step.Running = beside (λ w. taken w t) taken_bytes (λ w. taken_bytes_lem w t)
-  step_beside (step.Ended r v k) = beside (λ w. ended_in w t r v) (ended_bytes r v) (λ w. ended_bytes_lem w t r v)
-  step_beside (step.Refused c) = refused_beside c
+  step_beside : (a : Result Progress Refusal) → after_step (with_byte windows u 6 byte) t a ≡ with_byte (after_step windows t a) u 6 byte
+  step_beside (Ok progress.Running) = beside (λ w. taken w t) taken_bytes (λ w. taken_bytes_lem w t)
+  step_beside (Ok (progress.Ended r v k)) = beside (λ w. ended_in w t r v) (ended_bytes r v) (λ w. ended_bytes_lem w t r v)
+  step_beside (Err c) = refused_beside c
 
   acknowledged_beside : acknowledged_in (with_byte windows u 6 byte) t ≡ with_byte (acknowledged_in windows t) u 6 byte
   acknowledged_beside = beside (λ w. acknowledged_in w t) acknowledged_bytes (λ w. acknowledged_bytes_lem w t)
@@ -96,14 +92,14 @@ module _ (windows : List ℕ) (u byte t : ℕ) where
   asked_command (begins e d) = let d' = same_done ∙ d in rw (e, d') (ap Begins (same_byte 0 (omega arith)))
   asked_command (unacknowledged e d) = rw e
       (ap (λ (b : Bool). cond b (refused_command (with_byte windows u 6 byte) t cause.Unacknowledged) (Begins (byte_at (with_byte windows u 6 byte) t 0))) (same_done ∙ d)
-      ∙ ap (Settled (window.Refused cause.Unacknowledged)) (refused_beside cause.Unacknowledged))
+      ∙ ap (Settled (Err cause.Unacknowledged)) (refused_beside cause.Unacknowledged))
   asked_command (steps e) = rw e refl
-  asked_command (acknowledges e) = rw e (ap (Settled window.Served) acknowledged_beside)
-  asked_command {k} (unknown h) = simp (ne_eqb k 0 (λ e. omega (arith, e, h)), lt-ltb 3 k h) (ap (Settled (window.Refused cause.Window)) (refused_beside cause.Window))
+  asked_command (acknowledges e) = rw e (ap (Settled (Ok tt)) acknowledged_beside)
+  asked_command {k} (unknown h) = simp (ne_eqb k 0 (λ e. omega (arith, e, h)), lt-ltb 3 k h) (ap (Settled (Err cause.Window)) (refused_beside cause.Window))
 
-  asked_place : (p : Place) → asked_in (with_byte windows u 6 byte) t p ≡ masked_asked (asked_in windows t p)
-  asked_place (place.Refused c) = refl
-  asked_place place.Inside = rw (same_byte 1 (omega arith)) (asked_command (command windows t (byte_at windows t 1)))
+  asked_place : (p : Result ⊤ Refusal) → asked_in (with_byte windows u 6 byte) t p ≡ masked_asked (asked_in windows t p)
+  asked_place (Err c) = refl
+  asked_place (Ok tt) = rw (same_byte 1 (omega arith)) (asked_command (command windows t (byte_at windows t 1)))
 
   asked_masked : (n : ℕ) → asked_of (with_byte windows u 6 byte) n t ≡ masked_asked (asked_of windows n t)
   unfolding asked_of

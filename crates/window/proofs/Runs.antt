@@ -1,14 +1,11 @@
 -- Runs with windows are runs: every event leaves the cells and the row that the direct call in its place leaves.
+use Rattle.std.specs.Prelude.{Result, Ok, Err, ⊤}
 use mathlib.Core.Path.{◌≡◌, refl, sym, ap, ◌∙◌}
 use mathlib.Core.List.{List, [], ◌∷◌, ◌++◌, append_assoc}
 use Prim.Native.Nat.{ℕ}
 use lib.ListN.{length}
 use Rattle.laws.proofs.Clash.{never}
 use Rattle.machine.specs.Calls.{Begin, Step}
-use Rattle.stepping.specs.declared.answer.BeginAnswer.{BeginAnswer}
-use Rattle.stepping.specs.declared.answer.BeginAnswer.TheVariants as begin
-use Rattle.stepping.specs.declared.answer.StepAnswer.{StepAnswer}
-use Rattle.stepping.specs.declared.answer.StepAnswer.TheVariants as step
 use Rattle.stepping.specs.Call.{begin_said, step_said, begin_of, step_of}
 use Rattle.stepping.specs.Runs.{Store, serve_of, run_of}
 use Rattle.stepping.specs.Opening.{Opening}
@@ -17,6 +14,9 @@ use Rattle.stepping.proofs.Continued.{run_append}
 use Rattle.window.specs.Serve.{window_said, Asked, Settled, Begins, Steps, asked_of, begun_answer, stepped_answer, made, window_of}
 use Rattle.window.specs.Events.{WindowEvent, Written, Served, Direct, WindowStore, happen, after, call_by, call_at, calls_of}
 use Rattle.window.specs.Statement.{SameAsDirect, ComeTo, CallsGrow, said_of, AnswersDirect, AlongWindows}
+use Rattle.refusal.specs.declared.Refusal.{Refusal}
+use Rattle.stepping.specs.declared.answer.Progress.{Progress}
+use Rattle.stepping.specs.declared.answer.Progress.TheVariants as progress
 
 -- One event.
 happens : (file : List ℕ) (e : WindowEvent) (l : WindowStore) → (happen file e l).store ≡ run_of file (call_at e l) l.store
@@ -50,14 +50,14 @@ after_append file [] fs l = refl
 after_append file (e ∷ es) fs l = after_append file es fs (happen file e l)
 
 -- The window call's answer is that of the direct call.
-begun_said : (a : BeginAnswer) → window_said (begun_answer a) ≡ said_of (begin_said a)
-begun_said begin.Begun = refl
-begun_said (begin.Refused c) = refl
+begun_said : (a : Result ⊤ Refusal) → window_said (begun_answer a) ≡ said_of (begin_said a)
+begun_said (Ok tt) = refl
+begun_said (Err c) = refl
 
-stepped_said : (a : StepAnswer) → window_said (stepped_answer a) ≡ said_of (step_said a)
-stepped_said step.Running = refl
-stepped_said (step.Ended r v k) = refl
-stepped_said (step.Refused c) = refl
+stepped_said : (a : Result Progress Refusal) → window_said (stepped_answer a) ≡ said_of (step_said a)
+stepped_said (Ok progress.Running) = refl
+stepped_said (Ok (progress.Ended r v k)) = refl
+stepped_said (Err c) = refl
 
 pub answers_direct : (file : List ℕ) (l : WindowStore) → AnswersDirect file l
 unfolding window_of

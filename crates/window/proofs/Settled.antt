@@ -1,4 +1,5 @@
 -- Calls of other tasks tell nothing of this one, a window call makes one call at most, and how a served command is noted.
+use Rattle.std.specs.Prelude.{Ok, Err}
 use mathlib.Core.Path.{◌≡◌, refl}
 use mathlib.Core.Logic.{◌↔◌, ◌≢◌, ◌⊎◌, inl, inr}
 use mathlib.Core.Bool.{Bool, true, false, ◌||◌}
@@ -9,7 +10,6 @@ use Rattle.laws.proofs.Clash.{never}
 use Rattle.machine.specs.Outcome.{Outcome}
 use Rattle.machine.specs.Calls.{Call, Begin, Step, Answer, Begun, Running, Ended, Refused, Event}
 use Rattle.machine.specs.History.{Pending, Nothing, Pends, longer, heard}
-use Rattle.window.specs.declared.WindowAnswer.TheVariants as window
 use Rattle.window.specs.Serve.{Asked, Settled, Begins, Steps}
 use Rattle.window.specs.Events.{call_by}
 use Rattle.window.specs.Console.{task_of, is_pending, ended_by, ending_by, noted}
@@ -45,7 +45,7 @@ one_call t (Begins o) = inr (Begin t o, refl, refl)
 one_call t Steps = inr (Step t, refl, refl)
 
 -- A served command is noted by its direct call.
-pub noted_served : (k : ℕ) (es : List Event) → k ≢ 3 → noted k window.Served es ≡ ending_by es
+pub noted_served : (k : ℕ) (es : List Event) → k ≢ 3 → noted k (Ok tt) es ≡ ending_by es
 noted_served k es h = simp (ne_eqb k 3 h)
 
 -- One of two bits.

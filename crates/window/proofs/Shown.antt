@@ -1,4 +1,5 @@
 -- What the window shows after a call: the named bits and bytes, by the command and the answers.
+use Rattle.std.specs.Prelude.{⊤, Result, Ok, Err}
 use mathlib.Core.Path.{◌≡◌, refl, sym, ap, ◌∙◌}
 use mathlib.Core.Bool.{Bool, true, false}
 use mathlib.Core.List.{List}
@@ -11,11 +12,8 @@ use Rattle.refusal.specs.declared.Refusal.{Refusal}
 use Rattle.refusal.specs.declared.Refusal.TheVariants as cause
 use Rattle.refusal.specs.Number.{number_of}
 use Rattle.records.specs.declared.record.Task.{Task}
-use Rattle.stepping.specs.declared.answer.StepAnswer.{StepAnswer}
-use Rattle.stepping.specs.declared.answer.StepAnswer.TheVariants as step
 use Rattle.stepping.specs.Call.{step_of}
 use Rattle.window.specs.declared.Status.{Status}
-use Rattle.window.specs.declared.WindowAnswer.TheVariants as window
 use Rattle.window.specs.Window.{byte_at, on, status_of, status_at, interrupt_at}
 use Rattle.window.specs.Written.{refused_status, begun_status, ended_status, acknowledged_status, taken, refused_in, begun_in, ended_in, acknowledged_in}
 use Rattle.window.specs.Serve.{WindowOutcome}
@@ -23,15 +21,17 @@ use Rattle.window.specs.Statement.{HasWindow, SettledAlone, Shows, RefusedWindow
 use Rattle.window.proofs.Bytes.{status_read, interrupt_read, Bytes, bytes_at, with_bytes, bytes_read, taken_bytes, begun_bytes, refused_bytes, ended_bytes, acknowledged_bytes, taken_bytes_lem, begun_bytes_lem, refused_bytes_lem, acknowledged_bytes_lem, ended_bytes_lem}
 use Rattle.window.proofs.Cases.{Case, still, unfit, past, nothing, unknown, acknowledged, unacknowledged, begun, begin_refused, running, ended, step_refused, cases}
 use Rattle.window.proofs.Left.{inside}
+use Rattle.stepping.specs.declared.answer.Progress.{Progress}
+use Rattle.stepping.specs.declared.answer.Progress.TheVariants as progress
 
 -- A step has one answer.
-running_ended : {a : StepAnswer} {r k : ℕ} {v : Bool} → a ≡ step.Running → a ≡ step.Ended r v k → ⊥
+running_ended : {a : (Result Progress Refusal)} {r k : ℕ} {v : Bool} → a ≡ (Ok progress.Running) → a ≡ (Ok (progress.Ended r v k)) → ⊥
 running_ended e f = never cc
 
-refused_running : {a : StepAnswer} {c : Refusal} → a ≡ step.Refused c → a ≡ step.Running → ⊥
+refused_running : {a : (Result Progress Refusal)} {c : Refusal} → a ≡ Err c → a ≡ (Ok progress.Running) → ⊥
 refused_running e f = never cc
 
-refused_ended : {a : StepAnswer} {c : Refusal} {r k : ℕ} {v : Bool} → a ≡ step.Refused c → a ≡ step.Ended r v k → ⊥
+refused_ended : {a : (Result Progress Refusal)} {c : Refusal} {r k : ℕ} {v : Bool} → a ≡ Err c → a ≡ (Ok (progress.Ended r v k)) → ⊥
 refused_ended e f = never cc
 
 module _ (windows : List ℕ) (t : ℕ) (within : 8 * t + 7 < length windows) where
@@ -71,15 +71,15 @@ module _ (windows : List ℕ) (t : ℕ) (within : 8 * t + 7 < length windows) wh
 
 module _ (file cells : List ℕ) (row : List Task) (windows : List ℕ) (t : ℕ) where
   -- Without a window, and for a command.
-  refuses_none : (b c : Refusal) → (HasWindow windows (length row) t → ⊥) → RefusedWindow file cells row windows t c (still file cells row windows t windows (window.Refused b))
+  refuses_none : (b c : Refusal) → (HasWindow windows (length row) t → ⊥) → RefusedWindow file cells row windows t c (still file cells row windows t windows (Err b))
   refuses_none b c none = record { cells_left = refl; row_left = refl; no_window = λ _. refl; marked = λ has. absurd (none has) }
 
-  refuses_command : (b c : Refusal) → HasWindow windows (length row) t → window.Refused b ≡ window.Refused c → RefusedWindow file cells row windows t c (still file cells row windows t (refused_in windows t b) (window.Refused b))
+  refuses_command : (b c : Refusal) → HasWindow windows (length row) t → ◌≡◌ {A = Result ⊤ Refusal} (Err b) (Err c) → RefusedWindow file cells row windows t c (still file cells row windows t (refused_in windows t b) (Err b))
   refuses_command b c has e =
       let same : b ≡ c = cc in
       record { cells_left = refl; row_left = refl; no_window = λ none. absurd (none has); marked = λ _. rw (← same) (shows_refused windows t (inside windows (length row) t has) b) }
 
-  refuses : {out : WindowOutcome} → Case file cells row windows t out → (c : Refusal) → out.answer ≡ window.Refused c → RefusedWindow file cells row windows t c out
+  refuses : {out : WindowOutcome} → Case file cells row windows t out → (c : Refusal) → out.answer ≡ Err c → RefusedWindow file cells row windows t c out
   refuses (unfit h) c e = refuses_none cause.Window c (λ has. h has.0)
   refuses (past l h) c e = refuses_none cause.Task c (λ has. omega (arith, has.1, h))
   refuses (nothing h z) c e = never cc
@@ -97,7 +97,7 @@ module _ (file cells : List ℕ) (row : List Task) (windows : List ℕ) (t : ℕ
 
   -- Nothing and acknowledge are settled by the windows alone.
   alone : HasWindow windows (length row) t → byte_at windows t 1 ≢ 1 → byte_at windows t 1 ≢ 2 → byte_at windows t 1 ≤ 3 → {out : WindowOutcome} → Case file cells row windows t out
-      → (out.answer ≡ window.Served) × (out.cells ≡ cells) × (out.row ≡ row)
+      → (out.answer ≡ (Ok tt)) × (out.cells ≡ cells) × (out.row ≡ row)
   alone has one two few (unfit h) = absurd (h has.0)
   alone has one two few (past l h) = absurd (omega (arith, has.1, h))
   alone has one two few (nothing h z) = (refl, refl, refl)
@@ -125,7 +125,7 @@ module _ (file cells : List ℕ) (row : List Task) (windows : List ℕ) (t : ℕ
   }
 
   serves_begin : byte_at windows t 1 ≡ 1 → (out : WindowOutcome)
-      → (out.answer ≡ window.Served → Shows out.windows t true (status_at windows t).done (status_at windows t).refused (status_at windows t).moved (interrupt_at windows t) (byte_at windows t 3) (byte_at windows t 4)) → ServedWindow file cells row windows t out
+      → (out.answer ≡ (Ok tt) → Shows out.windows t true (status_at windows t).done (status_at windows t).refused (status_at windows t).moved (interrupt_at windows t) (byte_at windows t 3) (byte_at windows t 4)) → ServedWindow file cells row windows t out
   serves_begin e out f = record {
     nothing_left = λ z. absurd (omega (arith, e, z));
     acknowledge_shows = λ z. absurd (omega (arith, e, z));
@@ -135,8 +135,8 @@ module _ (file cells : List ℕ) (row : List Task) (windows : List ℕ) (t : ℕ
   }
 
   serves_step : byte_at windows t 1 ≡ 2 → (out : WindowOutcome)
-      → ((step_of file cells row t).answer ≡ step.Running → Shows out.windows t (status_at windows t).busy (status_at windows t).done (status_at windows t).refused (status_at windows t).moved (interrupt_at windows t) (byte_at windows t 3) (byte_at windows t 4))
-      → ((r k : ℕ) (v : Bool) → (step_of file cells row t).answer ≡ step.Ended r v k → Shows out.windows t false true (status_at windows t).refused v true (r % 256) (byte_at windows t 4)) → ServedWindow file cells row windows t out
+      → ((step_of file cells row t).answer ≡ (Ok progress.Running) → Shows out.windows t (status_at windows t).busy (status_at windows t).done (status_at windows t).refused (status_at windows t).moved (interrupt_at windows t) (byte_at windows t 3) (byte_at windows t 4))
+      → ((r k : ℕ) (v : Bool) → (step_of file cells row t).answer ≡ (Ok (progress.Ended r v k)) → Shows out.windows t false true (status_at windows t).refused v true (r % 256) (byte_at windows t 4)) → ServedWindow file cells row windows t out
   serves_step e out f g = record {
     nothing_left = λ z. absurd (omega (arith, e, z));
     acknowledge_shows = λ z. absurd (omega (arith, e, z));
@@ -169,7 +169,7 @@ module _ (file cells : List ℕ) (row : List Task) (windows : List ℕ) (t : ℕ
   serves has (running h z a) = serves_step z _ (λ _. shows_taken windows t (inside windows (length row) t h)) (λ r k v e. absurd (running_ended a e))
   serves has (ended h z r v k a) = serves_step z _ (λ e. absurd (running_ended e a)) (λ r' k' v' e. same r' k' v' e)
     where
-      same : (r' k' : ℕ) (v' : Bool) → (step_of file cells row t).answer ≡ step.Ended r' v' k' → Shows (ended_in windows t r v) t false true (status_at windows t).refused v' true (r' % 256) (byte_at windows t 4)
+      same : (r' k' : ℕ) (v' : Bool) → (step_of file cells row t).answer ≡ (Ok (progress.Ended r' v' k')) → Shows (ended_in windows t r v) t false true (status_at windows t).refused v' true (r' % 256) (byte_at windows t 4)
       same r' k' v' e =
           let same_r : r ≡ r' = cc in
           let same_v : v ≡ v' = cc in

@@ -1,16 +1,15 @@
 -- A console and its window: what it may do, what it reads, and what its window tells at every point.
-use Rattle.std.specs.Prelude.{◌≡◌, ◌≢◌, Bool, true, false, cond, List, [], ◌∷◌, ℕ, ◌+◌, ◌*◌, ◌<◌, ◌≤◌, eqb, length}
+use Rattle.std.specs.Prelude.{◌≡◌, ◌≢◌, Bool, true, false, cond, List, [], ◌∷◌, ℕ, ◌+◌, ◌*◌, ◌<◌, ◌≤◌, eqb, length, Result, Ok, Err, ⊤}
 use Rattle.laws.specs.Places.{At}
 use Rattle.refusal.specs.Number.{number_of}
 use Rattle.machine.specs.Outcome.{Outcome}
 use Rattle.machine.specs.Calls.{Call, Begin, Step, Answer, Begun, Running, Ended, Refused, Event}
 use Rattle.machine.specs.History.{Pending, Nothing, Pends}
 use Rattle.stepping.specs.Runs.{history_of}
-use Rattle.window.specs.declared.WindowAnswer.{WindowAnswer}
-use Rattle.window.specs.declared.WindowAnswer.TheVariants as window
 use Rattle.window.specs.Window.{byte_at, status_at}
 use Rattle.window.specs.Serve.{window_of}
 use Rattle.window.specs.Events.{WindowEvent, Written, Served, Direct, WindowStore, happen, call_at}
+use Rattle.refusal.specs.declared.Refusal.{Refusal}
 
 -- ---- What a console may do
 
@@ -105,9 +104,9 @@ ending_by [] = Other
 ending_by (e ∷ es) = ending_of e.answer
 
 -- By the command, the window call's answer, and the direct call that it made with its answer.
-abbrev pub noted : (command : ℕ) → WindowAnswer → List Event → Note
-noted command (window.Refused c) direct = Refusing (number_of c)
-noted command window.Served direct = cond (eqb command 3) Acknowledging (ending_by direct)
+abbrev pub noted : (command : ℕ) → Result ⊤ Refusal → List Event → Note
+noted command (Err c) direct = Refusing (number_of c)
+noted command (Ok tt) direct = cond (eqb command 3) Acknowledging (ending_by direct)
 
 -- What an event is to the console of task t, and all events one after another.
 abbrev pub note_of : List ℕ → ℕ → WindowEvent → WindowStore → Note

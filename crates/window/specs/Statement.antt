@@ -1,5 +1,5 @@
 -- What is proved of the window call, as types over its definition. `proofs/Theorem.antt` has a proof of each.
-use Rattle.std.specs.Prelude.{◌≡◌, ◌↔◌, ◌≢◌, ◌⊎◌, Bool, true, false, List, [], ◌∷◌, ◌++◌, ℕ, ◌+◌, ◌*◌, ◌/◌, ◌%◌, ◌<◌, ◌≤◌, length, get_or}
+use Rattle.std.specs.Prelude.{◌≡◌, ◌↔◌, ◌≢◌, ◌⊎◌, Bool, true, false, List, [], ◌∷◌, ◌++◌, ℕ, ◌+◌, ◌*◌, ◌/◌, ◌%◌, ◌<◌, ◌≤◌, length, get_or, Result, Ok, Err}
 use Rattle.refusal.specs.declared.Refusal.{Refusal}
 use Rattle.refusal.specs.Number.{number_of, Said, accepted, refused_by}
 use Rattle.cells.specs.Image.{image}
@@ -7,19 +7,18 @@ use Rattle.machine.specs.Outcome.{no_outcome}
 use Rattle.machine.specs.Calls.{Call, Begin, Step, Answer, Begun, Running, Ended, Refused}
 use Rattle.machine.specs.History.{pending, Rest}
 use Rattle.records.specs.declared.record.Task.{Task}
-use Rattle.stepping.specs.declared.answer.StepAnswer.TheVariants as step
 use Rattle.stepping.specs.Call.{task_at, step_of}
 use Rattle.stepping.specs.Runs.{Store, serve_of, run_of}
 use Rattle.stepping.specs.Opening.{Opening, object_in, shown}
 use Rattle.stepping.specs.Print.{Print}
 use Rattle.stepping.specs.Statement.{Demands}
-use Rattle.window.specs.declared.WindowAnswer.TheVariants as window
-use Rattle.window.specs.declared.LineAnswer.{LineAnswer}
 use Rattle.window.specs.Window.{byte_at, with_byte, status_at, interrupt_at, mask_at}
 use Rattle.window.specs.Serve.{window_said, asked_of, WindowOutcome, window_of}
 use Rattle.window.specs.Line.{line_of, line_said}
 use Rattle.window.specs.Events.{WindowEvent, Written, Served, Direct, WindowStore, opened, happen, after, call_by, call_at, calls_of}
 use Rattle.window.specs.Console.{AllLeave, reading_of, without_count, is_pending, last_ended, notes_of, Since, IsEnding, IsRefusing, last_refused}
+use Rattle.window.specs.declared.LineLevel.{LineLevel}
+use Rattle.stepping.specs.declared.answer.Progress.TheVariants as progress
 
 -- ---- The bytes and the bits by their numbers
 
@@ -52,7 +51,7 @@ module _ (windows : List ℕ) (n t : ℕ) where
   NoneBy = (call_by t (asked_of windows n t) ≡ []) ↔ (HasWindow → (byte_at windows t 1 ≢ 2) × (byte_at windows t 1 ≡ 1 → (status_at windows t).done ≡ true))
 
   -- The line's answer: 18, then 7; it is up exactly if bit 0 of byte 5 is 1 and bit 0 of byte 6 is 0.
-  pub record LineSays (a : LineAnswer) : Type 0 where
+  pub record LineSays (a : Result LineLevel Refusal) : Type 0 where
     pub unfit : (line_said a ≡ refused_by 18) ↔ (length windows ≢ 8 * n)
     pub past : (line_said a ≡ refused_by 7) ↔ ((length windows ≡ 8 * n) × (n ≤ t))
     pub up : (line_said a ≡ accepted (1 ∷ [])) ↔ (HasWindow × (interrupt_at windows t ≡ true) × (mask_at windows t ≡ false))
@@ -73,7 +72,7 @@ module _ (file cells : List ℕ) (row : List Task) (windows : List ℕ) (t : ℕ
   abbrev pub SettledAlone : Type 0
   SettledAlone =
       HasWindow windows (length row) t → (byte_at windows t 1 ≡ 0) ⊎ (byte_at windows t 1 ≡ 3)
-      → ((window_of file cells row windows t).answer ≡ window.Served) × ((window_of file cells row windows t).cells ≡ cells) × ((window_of file cells row windows t).row ≡ row)
+      → ((window_of file cells row windows t).answer ≡ (Ok tt)) × ((window_of file cells row windows t).cells ≡ cells) × ((window_of file cells row windows t).row ≡ row)
 
   -- ---- What is written, for all arguments
 
@@ -130,18 +129,18 @@ module _ (file cells : List ℕ) (row : List Task) (windows : List ℕ) (t : ℕ
         → Shows out.windows t (status_at windows t).busy (status_at windows t).done true (status_at windows t).moved true (byte_at windows t 3) (number_of c)
 
   abbrev pub RefusedLeaves : Type 0
-  RefusedLeaves = (c : Refusal) → (window_of file cells row windows t).answer ≡ window.Refused c → RefusedWindow c (window_of file cells row windows t)
+  RefusedLeaves = (c : Refusal) → (window_of file cells row windows t).answer ≡ Err c → RefusedWindow c (window_of file cells row windows t)
 
   -- A call that is not refused, by its command and the answer of the step that it makes.
   pub record ServedWindow (out : WindowOutcome) : Type 0 where
     pub nothing_left : byte_at windows t 1 ≡ 0 → out.windows ≡ windows
     pub acknowledge_shows : byte_at windows t 1 ≡ 3
         → Shows out.windows t (status_at windows t).busy false false (status_at windows t).moved false (byte_at windows t 3) (byte_at windows t 4)
-    pub begin_shows : byte_at windows t 1 ≡ 1 → out.answer ≡ window.Served
+    pub begin_shows : byte_at windows t 1 ≡ 1 → out.answer ≡ (Ok tt)
         → Shows out.windows t true (status_at windows t).done (status_at windows t).refused (status_at windows t).moved (interrupt_at windows t) (byte_at windows t 3) (byte_at windows t 4)
-    pub running_shows : byte_at windows t 1 ≡ 2 → (step_of file cells row t).answer ≡ step.Running
+    pub running_shows : byte_at windows t 1 ≡ 2 → (step_of file cells row t).answer ≡ (Ok progress.Running)
         → Shows out.windows t (status_at windows t).busy (status_at windows t).done (status_at windows t).refused (status_at windows t).moved (interrupt_at windows t) (byte_at windows t 3) (byte_at windows t 4)
-    pub ended_shows : (r k : ℕ) (v : Bool) → byte_at windows t 1 ≡ 2 → (step_of file cells row t).answer ≡ step.Ended r v k
+    pub ended_shows : (r k : ℕ) (v : Bool) → byte_at windows t 1 ≡ 2 → (step_of file cells row t).answer ≡ (Ok (progress.Ended r v k))
         → Shows out.windows t false true (status_at windows t).refused v true (r % 256) (byte_at windows t 4)
 
   abbrev pub ServedLeaves : Type 0

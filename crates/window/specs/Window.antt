@@ -1,9 +1,8 @@
 -- docs/FORMATS.md, "The register window": the eight bytes of a task's window, and the bits in them.
-use Rattle.std.specs.Prelude.{Bool, cond, List, ℕ, ◌+◌, ◌*◌, ◌/◌, ◌%◌, eqb, ltb, length, get_or, set}
+use Rattle.std.specs.Prelude.{Bool, cond, List, ℕ, ◌+◌, ◌*◌, ◌/◌, ◌%◌, eqb, ltb, length, get_or, set, Result, Ok, Err, ⊤}
 use Rattle.refusal.specs.declared.Refusal.TheVariants as cause
-use Rattle.window.specs.declared.Place.{Place}
-use Rattle.window.specs.declared.Place.TheVariants as place
 use Rattle.window.specs.declared.Status.{Status}
+use Rattle.refusal.specs.declared.Refusal.{Refusal}
 
 -- Byte k of the window of task t; the windows stand one after another.
 abbrev pub byte_at : List ℕ → (t k : ℕ) → ℕ
@@ -41,5 +40,5 @@ abbrev pub mask_at : List ℕ → ℕ → Bool
 mask_at windows t = on (byte_at windows t 6)
 
 -- The tests of every call on windows: 18 unless they have eight bytes for each of n tasks, then 7 for a task not below n.
-abbrev pub place_of : List ℕ → (n t : ℕ) → Place
-place_of windows n t = cond (eqb (length windows) (8 * n)) (cond (ltb t n) place.Inside (place.Refused cause.Task)) (place.Refused cause.Window)
+abbrev pub place_of : List ℕ → (n t : ℕ) → Result ⊤ Refusal
+place_of windows n t = cond (eqb (length windows) (8 * n)) (cond (ltb t n) (Ok tt) (Err cause.Task)) (Err cause.Window)

@@ -1,10 +1,9 @@
 -- The parts of a window call by which the code is cut: what it comes to as numbers, and what is left by the windows alone.
-use Rattle.std.specs.Prelude.{cond, List, ℕ, eqb}
+use Rattle.std.specs.Prelude.{cond, List, ℕ, eqb, Result, Ok, Err, ⊤}
 use Rattle.records.specs.declared.record.Task.{Task}
-use Rattle.window.specs.declared.WindowAnswer.{WindowAnswer}
-use Rattle.window.specs.declared.WindowAnswer.TheVariants as window
 use Rattle.window.specs.declared.Work.{Work}
 use Rattle.window.specs.Serve.{Asked, Settled, Begins, Steps, WindowOutcome, made}
+use Rattle.refusal.specs.declared.Refusal.{Refusal}
 
 -- 0 for no call of the library, 1 for a begin with its operation, 2 for a step.
 abbrev pub work_of : Asked → Work
@@ -13,10 +12,10 @@ work_of (Begins operation) = record { call = 1; operation = operation }
 work_of Steps = record { call = 2; operation = 0 }
 
 -- The answer and the windows, where no call is made; where one is, these are not looked at.
-abbrev pub settled_answer : Asked → WindowAnswer
+abbrev pub settled_answer : Asked → Result ⊤ Refusal
 settled_answer (Settled answer windows) = answer
-settled_answer (Begins operation) = window.Served
-settled_answer Steps = window.Served
+settled_answer (Begins operation) = (Ok tt)
+settled_answer Steps = (Ok tt)
 
 abbrev pub settled_windows : List ℕ → Asked → List ℕ
 settled_windows old (Settled answer windows) = windows

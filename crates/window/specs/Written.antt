@@ -1,14 +1,12 @@
 -- docs/FORMATS.md, "The register window": what a window call writes, always into the window of its task. A command is taken once:
 -- byte 1 becomes 0.
-use Rattle.std.specs.Prelude.{Bool, true, false, List, ℕ, ◌%◌}
+use Rattle.std.specs.Prelude.{Bool, true, false, List, ℕ, ◌%◌, Result, Ok, Err, ⊤}
 use Rattle.refusal.specs.declared.Refusal.{Refusal}
 use Rattle.refusal.specs.Number.{number_of}
-use Rattle.stepping.specs.declared.answer.BeginAnswer.{BeginAnswer}
-use Rattle.stepping.specs.declared.answer.BeginAnswer.TheVariants as begin
-use Rattle.stepping.specs.declared.answer.StepAnswer.{StepAnswer}
-use Rattle.stepping.specs.declared.answer.StepAnswer.TheVariants as step
 use Rattle.window.specs.declared.Status.{Status}
 use Rattle.window.specs.Window.{byte_at, with_byte, status_byte, status_at, interrupt_byte}
+use Rattle.stepping.specs.declared.answer.Progress.{Progress}
+use Rattle.stepping.specs.declared.answer.Progress.TheVariants as progress
 
 -- ---- The status after a command
 
@@ -59,12 +57,12 @@ acknowledged_in windows t = with_byte (marked windows t (acknowledged_status (st
 -- ---- The windows after a begin and after a step
 
 -- By the answer of the begin.
-abbrev pub after_begin : List ℕ → ℕ → BeginAnswer → List ℕ
-after_begin windows t begin.Begun = begun_in windows t
-after_begin windows t (begin.Refused c) = refused_in windows t c
+abbrev pub after_begin : List ℕ → ℕ → Result ⊤ Refusal → List ℕ
+after_begin windows t (Ok tt) = begun_in windows t
+after_begin windows t (Err c) = refused_in windows t c
 
 -- By the answer of the step.
-abbrev pub after_step : List ℕ → ℕ → StepAnswer → List ℕ
-after_step windows t step.Running = taken windows t
-after_step windows t (step.Ended response moved steps) = ended_in windows t response moved
-after_step windows t (step.Refused c) = refused_in windows t c
+abbrev pub after_step : List ℕ → ℕ → Result Progress Refusal → List ℕ
+after_step windows t (Ok progress.Running) = taken windows t
+after_step windows t (Ok (progress.Ended response moved steps)) = ended_in windows t response moved
+after_step windows t (Err c) = refused_in windows t c

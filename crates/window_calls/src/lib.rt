@@ -2,7 +2,7 @@
 // begin or step that it asks for, and leaves there what the console reads; the other tells the interrupt line.
 #![tactic(auto)]
 
-ghost use Rattle.std.specs.Prelude.{◌≡◌, ◌+◌, ◌*◌, ◌<◌, length};
+ghost use Rattle.std.specs.Prelude.{◌≡◌, ◌+◌, ◌*◌, ◌<◌, length, Ok};
 ghost use Rattle.stepping.specs.Call.{begin_of, step_of};
 ghost use Rattle.window.specs.Window.{byte_at, status_at, place_of};
 ghost use Rattle.window.specs.Written.{after_begin, after_step};
@@ -12,27 +12,27 @@ ghost use Rattle.window.specs.Line.{line_in, line_of};
 
 use records::record::Task;
 use refusal::Refusal;
-use stepping::answer::{BeginAnswer, StepAnswer};
-use window::{LineAnswer, Place, WindowAnswer, Work};
+use stepping::answer::Progress;
+use window::{LineLevel, Work};
 
 mod status;
 mod write;
 
 // The tests of every call on windows: 18 unless there are eight bytes for each task, then 7.
 #[tactic(auto, using(laws::proofs::Clash::never, window::proofs::Commands::place_unfit, window::proofs::Commands::place_past, window::proofs::Commands::place_inside))]
-fn find_window(windows: &[u8], tasks: usize, task: usize) -> Place
-    ensures { (result ≡ place_of windows.now tasks task) × (result ≡ Place.Inside → 8 * task + 7 < length windows.now) }
+fn find_window(windows: &[u8], tasks: usize, task: usize) -> Result<(), Refusal>
+    ensures { (result ≡ place_of windows.now tasks task) × (result ≡ Ok tt → 8 * task + 7 < length windows.now) }
 {
     if windows.len() % write::BYTES != 0 {
-        return Place::Refused(Refusal::Window);
+        return Err(Refusal::Window);
     }
     if windows.len() / write::BYTES != tasks {
-        return Place::Refused(Refusal::Window);
+        return Err(Refusal::Window);
     }
     if tasks <= task {
-        return Place::Refused(Refusal::Task);
+        return Err(Refusal::Task);
     }
-    Place::Inside
+    Ok(())
 }
 
 // No call of the library.
@@ -86,74 +86,70 @@ fn work_of_call(windows: &[u8], tasks: usize, task: usize) -> Work
 {
     let place = find_window(windows, tasks, task);
     match place {
-        Place::Refused(_) => no_work(),
-        Place::Inside => work_of_command(windows, task),
+        Err(_) => no_work(),
+        Ok(()) => work_of_command(windows, task),
     }
 }
 
 // A command that is settled without the library: nothing, acknowledge, or one that is refused.
 #[tactic(auto, using(window::proofs::Commands::settled_acknowledged, window::proofs::Commands::settled_unacknowledged, window::proofs::Commands::settled_unknown, window::proofs::Commands::settled_left))]
-fn settle_command(windows: &mut [u8], task: usize) -> WindowAnswer
+fn settle_command(windows: &mut [u8], task: usize) -> Result<(), Refusal>
     requires { 8 * task + 7 < length windows.old }
     ensures { (windows.new ≡ settled_windows windows.old (commanded windows.old task (byte_at windows.old task 1))) × (result ≡ settled_answer (commanded windows.old task (byte_at windows.old task 1))) }
 {
     let command = write::byte_at(windows, task, write::COMMAND);
     if command == 3 {
         write::write_acknowledged(windows, task);
-        return WindowAnswer::Served;
+        return Ok(());
     }
     if 3 < command {
         write::write_refused(windows, task, Refusal::Window);
-        return WindowAnswer::Refused(Refusal::Window);
+        return Err(Refusal::Window);
     }
     if command != 1 {
-        return WindowAnswer::Served;
+        return Ok(());
     }
     if done_stands(windows, task) {
         write::write_refused(windows, task, Refusal::Unacknowledged);
-        return WindowAnswer::Refused(Refusal::Unacknowledged);
+        return Err(Refusal::Unacknowledged);
     }
-    WindowAnswer::Served
+    Ok(())
 }
 
 // A window call that is settled without the library.
 #[tactic(auto, using(window::proofs::Commands::asked_at))]
-fn settle(windows: &mut [u8], tasks: usize, task: usize) -> WindowAnswer
+fn settle(windows: &mut [u8], tasks: usize, task: usize) -> Result<(), Refusal>
     ensures { (windows.new ≡ settled_windows windows.old (asked_of windows.old tasks task)) × (result ≡ settled_answer (asked_of windows.old tasks task)) }
 {
     let place = find_window(windows, tasks, task);
     match place {
-        Place::Refused(cause) => WindowAnswer::Refused(cause),
-        Place::Inside => settle_command(windows, task),
+        Err(cause) => Err(cause),
+        Ok(()) => settle_command(windows, task),
     }
 }
 
 // What is left in the window after a begin, and the answer.
-fn after_begin(windows: &mut [u8], task: usize, answer: BeginAnswer) -> WindowAnswer
+fn after_begin(windows: &mut [u8], task: usize, answer: Result<(), Refusal>) -> Result<(), Refusal>
     requires { 8 * task + 7 < length windows.old }
     ensures { (windows.new ≡ after_begin windows.old task answer) × (result ≡ begun_answer answer) }
 {
     write::write_begin(windows, task, answer);
     match answer {
-        BeginAnswer::Begun => WindowAnswer::Served,
-        BeginAnswer::Refused(cause) => WindowAnswer::Refused(cause),
+        Ok(()) => Ok(()),
+        Err(cause) => Err(cause),
     }
 }
 
 // What is left in the window after a step, and the answer.
-fn after_step(windows: &mut [u8], task: usize, answer: StepAnswer) -> WindowAnswer
+fn after_step(windows: &mut [u8], task: usize, answer: Result<Progress, Refusal>) -> Result<(), Refusal>
     requires { 8 * task + 7 < length windows.old }
     ensures { (windows.new ≡ after_step windows.old task answer) × (result ≡ stepped_answer answer) }
 {
     write::write_step(windows, task, answer);
     match answer {
-        StepAnswer::Running => WindowAnswer::Served,
-        StepAnswer::Ended {
-            response: _,
-            moved: _,
-            steps: _,
-        } => WindowAnswer::Served,
-        StepAnswer::Refused(cause) => WindowAnswer::Refused(cause),
+        Ok(Progress::Running) => Ok(()),
+        Ok(Progress::Ended { .. }) => Ok(()),
+        Err(cause) => Err(cause),
     }
 }
 
@@ -164,7 +160,7 @@ fn begin_by_window(
     windows: &mut [u8],
     task: usize,
     operation: usize,
-) -> WindowAnswer
+) -> Result<(), Refusal>
     requires { 8 * task + 7 < length windows.old }
     ensures { (row.new ≡ (begin_of file.now row.old task operation).row) × (windows.new ≡ after_begin windows.old task (begin_of file.now row.old task operation).answer) × (result ≡ begun_answer (begin_of file.now row.old task operation).answer) }
 {
@@ -179,7 +175,7 @@ fn step_by_window(
     row: &mut [Task],
     windows: &mut [u8],
     task: usize,
-) -> WindowAnswer
+) -> Result<(), Refusal>
     requires { 8 * task + 7 < length windows.old }
     ensures { (cells.new ≡ (step_of file.now cells.old row.old task).cells) × (row.new ≡ (step_of file.now cells.old row.old task).row) × (windows.new ≡ after_step windows.old task (step_of file.now cells.old row.old task).answer) × (result ≡ stepped_answer (step_of file.now cells.old row.old task).answer) }
 {
@@ -196,7 +192,7 @@ fn call_by_window(
     task: usize,
     call: usize,
     operation: usize,
-) -> WindowAnswer
+) -> Result<(), Refusal>
     requires { 8 * task + 7 < length windows.old }
     ensures { record { cells = cells.new; row = row.new; windows = windows.new; answer = result } ≡ called_of file.now cells.old row.old windows.old task call operation }
 {
@@ -215,7 +211,7 @@ fn serve_asked(
     task: usize,
     call: usize,
     operation: usize,
-) -> WindowAnswer
+) -> Result<(), Refusal>
     requires { (call ≡ (work_of (asked_of windows.old (length row.old) task)).call) × (operation ≡ (work_of (asked_of windows.old (length row.old) task)).operation) }
     ensures { record { cells = cells.new; row = row.new; windows = windows.new; answer = result } ≡ window_of file.now cells.old row.old windows.old task }
 {
@@ -234,7 +230,7 @@ pub fn serve_window(
     row: &mut [Task],
     windows: &mut [u8],
     task: usize,
-) -> WindowAnswer
+) -> Result<(), Refusal>
     ensures { record { cells = cells.new; row = row.new; windows = windows.new; answer = result } ≡ window_of file.now cells.old row.old windows.old task }
 {
     let tasks = row.len();
@@ -243,27 +239,27 @@ pub fn serve_window(
 }
 
 // The line of a task that has a window.
-fn line_in(windows: &[u8], task: usize) -> LineAnswer
+fn line_in(windows: &[u8], task: usize) -> Result<LineLevel, Refusal>
     requires { 8 * task + 7 < length windows.now }
-    ensures { result ≡ line_in windows.now task Place.Inside }
+    ensures { result ≡ line_in windows.now task (Ok tt) }
 {
     if write::byte_at(windows, task, write::MASK) % 2 == 1 {
-        return LineAnswer::Down;
+        return Ok(LineLevel::Down);
     }
     if write::byte_at(windows, task, write::INTERRUPT) % 2 == 1 {
-        return LineAnswer::Up;
+        return Ok(LineLevel::Up);
     }
-    LineAnswer::Down
+    Ok(LineLevel::Down)
 }
 
 // The interrupt line of a task.
 #[tactic(auto, using(window::proofs::Commands::line_at))]
-pub fn line(windows: &[u8], tasks: usize, task: usize) -> LineAnswer
+pub fn line(windows: &[u8], tasks: usize, task: usize) -> Result<LineLevel, Refusal>
     ensures { result ≡ line_of windows.now tasks task }
 {
     let place = find_window(windows, tasks, task);
     match place {
-        Place::Refused(cause) => LineAnswer::Refused(cause),
-        Place::Inside => line_in(windows, task),
+        Err(cause) => Err(cause),
+        Ok(()) => line_in(windows, task),
     }
 }

@@ -5,7 +5,7 @@ ghost use Rattle.window.specs.Written.{taken, refused_in, begun_in, ended_in, ac
 
 use crate::status;
 use refusal::Refusal;
-use stepping::answer::{BeginAnswer, StepAnswer};
+use stepping::answer::Progress;
 
 // The bytes of a window that are read or written.
 pub(crate) const OPERATION: usize = 0;
@@ -98,28 +98,28 @@ pub(crate) fn write_acknowledged(windows: &mut [u8], task: usize)
 }
 
 // A begin, by its answer.
-pub(crate) fn write_begin(windows: &mut [u8], task: usize, answer: BeginAnswer)
+pub(crate) fn write_begin(windows: &mut [u8], task: usize, answer: Result<(), Refusal>)
     requires { 8 * task + 7 < length windows.old }
     ensures { windows.new ≡ after_begin windows.old task answer }
 {
     match answer {
-        BeginAnswer::Begun => write_begun(windows, task),
-        BeginAnswer::Refused(cause) => write_refused(windows, task, cause),
+        Ok(()) => write_begun(windows, task),
+        Err(cause) => write_refused(windows, task, cause),
     }
 }
 
 // A step, by its answer.
-pub(crate) fn write_step(windows: &mut [u8], task: usize, answer: StepAnswer)
+pub(crate) fn write_step(windows: &mut [u8], task: usize, answer: Result<Progress, Refusal>)
     requires { 8 * task + 7 < length windows.old }
     ensures { windows.new ≡ after_step windows.old task answer }
 {
     match answer {
-        StepAnswer::Running => take(windows, task),
-        StepAnswer::Ended {
+        Ok(Progress::Running) => take(windows, task),
+        Ok(Progress::Ended {
             response,
             moved,
             steps: _,
-        } => write_ended(windows, task, response, moved),
-        StepAnswer::Refused(cause) => write_refused(windows, task, cause),
+        }) => write_ended(windows, task, response, moved),
+        Err(cause) => write_refused(windows, task, cause),
     }
 }

@@ -1,8 +1,6 @@
-use Rattle.drive.proofs.Starts.{count_fits, start_said_lem}
+use Rattle.std.proofs.Common.{◌∙◌, sym}
+use Rattle.drive.proofs.Starts.{start_accepted}
 use Rattle.drive.proofs.start.Goals as goal
 
-pub fill_row-requires : goal.fill_row-requires
-fill_row-requires c = rw c.idle_count.ensures (count_fits _ _ _ _ c.start_cells-answer.ensures.0)
-
 pub returns : goal.returns
-returns c = rw (c.fill_row.ensures, c.idle_count.ensures) (start_said_lem _ _ _ _ _ c.start_cells-answer.ensures)
+returns c = start_accepted _ _ _ _ (sym c.admit_start.ensures ∙ c.in_ok-state.was) _ _ c.fill_image.ensures c.fill_row.ensures
