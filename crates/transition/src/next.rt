@@ -274,32 +274,32 @@ pub fn next(
 {
     let word = found.word();
     let made = found.made();
-    let marked = marks::has_mark(word, usize::from(task));
-    let linked = marks::add_mark(own.head, usize::from(task));
+    let marked = || marks::has_mark(word, usize::from(task));
+    let linked = || marks::add_mark(own.head, usize::from(task));
     match phase {
         Phase::Idle => Next::bare(Phase::Idle),
         Phase::ReadOnly => read_end(file, shape, own, word),
         Phase::Announce => Next::bare(Phase::Poll),
         Phase::Poll => after_poll(word),
         Phase::LoadHead => Next::with_head(Phase::LinkHead, word),
-        Phase::LinkHead => after_link_head(own.head, linked, made),
+        Phase::LinkHead => after_link_head(own.head, linked(), made),
         Phase::LoadPriority => after_priority(priority, own, word),
         Phase::LoadOwn => after_own(task, own, word),
         Phase::LoadExit => after_load_exit(task, own, word),
-        Phase::LinkExit => after_exit_swap(own, made, Phase::ClearExit, linked),
+        Phase::LinkExit => after_exit_swap(own, made, Phase::ClearExit, linked()),
         Phase::ClearExit => after_exit_swap(own, made, Phase::Retract, 0),
         Phase::ReleaseExit => after_exit_swap(own, made, Phase::Retract, 0),
         Phase::Retract => kept_end(own.payload),
         Phase::ClearHead => store_again(!made, Phase::ReloadClear, 0, own.head),
-        Phase::ReloadClear => store_again(marked, Phase::ClearHead, 0, word),
+        Phase::ReloadClear => store_again(marked(), Phase::ClearHead, 0, word),
         Phase::Apply(j) => after_apply(own, j, made),
-        Phase::ReloadApply(j) => store_again(marked, Phase::Apply(j), own.payload, word),
+        Phase::ReloadApply(j) => store_again(marked(), Phase::Apply(j), own.payload, word),
         Phase::LoadHelped(j) => Next::with_both(Phase::LinkHelped(j), own.head, word),
         Phase::LinkHelped(j) => after_link_helped(task, own, j, made),
-        Phase::Validate(j) => after_validate(own, j, marked),
+        Phase::Validate(j) => after_validate(own, j, marked()),
         Phase::HandOver(j) => help_again(!made, Phase::ReloadHandOver(j), own, own.announcement),
-        Phase::ReloadHandOver(j) => help_again(marked, Phase::HandOver(j), own, word),
+        Phase::ReloadHandOver(j) => help_again(marked(), Phase::HandOver(j), own, word),
         Phase::Release(j) => help_again(!made, Phase::ReloadRelease(j), own, own.announcement),
-        Phase::ReloadRelease(j) => help_again(marked, Phase::Release(j), own, word),
+        Phase::ReloadRelease(j) => help_again(marked(), Phase::Release(j), own, word),
     }
 }
