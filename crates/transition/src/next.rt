@@ -84,6 +84,20 @@ impl Next {
     }
 }
 
+// Whether a task's mark stands in a word.
+fn marked(word: u64, task: u8) -> bool
+    ensures { result ≡ has_mark task word }
+{
+    marks::has_mark(word, usize::from(task))
+}
+
+// A word with a task's mark.
+fn linked(word: u64, task: u8) -> u64
+    ensures { result ≡ add_mark task word }
+{
+    marks::add_mark(word, usize::from(task))
+}
+
 // After a link that fails a task looks for its own response before it tries again.
 const AFTER_FAILED_LINK: Phase = Phase::Poll;
 
@@ -108,11 +122,11 @@ fn after_link(word: u64, found: Head) -> Next
 }
 
 // After a swap that links the head.
-fn after_link_head(head: u64, linked: u64, made: bool) -> Next
-    ensures { result ≡ cond made (after_link linked (head_of head)) failed_link }
+fn after_link_head(task: u8, own: Task, made: bool) -> Next
+    ensures { result ≡ cond made (after_link (add_mark task own.head) (head_of own.head)) failed_link }
 {
     if made {
-        after_link(linked, head::read_head(head))
+        after_link(linked(own.head, task), head::read_head(own.head))
     } else {
         Next::bare(AFTER_FAILED_LINK)
     }
@@ -149,9 +163,8 @@ fn after_own(task: u8, own: Task, word: u64) -> Next
 fn after_load_exit(task: u8, own: Task, word: u64) -> Next
     ensures { result ≡ after_exit own.payload word (has_mark task word) (holder_is task (head_of word)) }
 {
-    let marked = marks::has_mark(word, usize::from(task));
     let holder = words::holder_is(task, head::read_head(word));
-    match (marked, holder) {
+    match (marked(word, task), holder) {
         (true, true) => Next::with_payload_and_head(Phase::ClearExit, own.payload, word),
         (true, false) => Next::with_payload_and_head(Phase::ReleaseExit, own.payload, word),
         (false, true) => Next::with_payload_and_head(Phase::LinkExit, own.payload, word),
@@ -171,7 +184,7 @@ fn after_exit_swap(own: Task, made: bool, phase: Phase, head: u64) -> Next
 }
 
 // A conditional store on the head is tried again, or the loop starts again.
-fn store_again(again: bool, phase: Phase, payload: u32, head: u64) -> Next
+fn swap_again(again: bool, phase: Phase, payload: u32, head: u64) -> Next
     ensures { result ≡ cond again (Next.Go phase payload head 0) (bare Phase.Poll) }
 {
     if again {
@@ -218,8 +231,7 @@ fn after_link_helped(task: u8, own: Task, helped: u8, made: bool) -> Next
     ensures { result ≡ cond made (after_link_helped own.head helped (add_mark task own.announcement) (announcement_of own.announcement)) failed_link }
 {
     if made {
-        let linked = marks::add_mark(own.announcement, usize::from(task));
-        after_linked(own, helped, linked)
+        after_linked(own, helped, linked(own.announcement, task))
     } else {
         Next::bare(AFTER_FAILED_LINK)
     }
@@ -274,32 +286,30 @@ pub fn next(
 {
     let word = found.word();
     let made = found.made();
-    let marked = || marks::has_mark(word, usize::from(task));
-    let linked = || marks::add_mark(own.head, usize::from(task));
     match phase {
         Phase::Idle => Next::bare(Phase::Idle),
         Phase::ReadOnly => read_end(file, shape, own, word),
         Phase::Announce => Next::bare(Phase::Poll),
         Phase::Poll => after_poll(word),
         Phase::LoadHead => Next::with_head(Phase::LinkHead, word),
-        Phase::LinkHead => after_link_head(own.head, linked(), made),
+        Phase::LinkHead => after_link_head(task, own, made),
         Phase::LoadPriority => after_priority(priority, own, word),
         Phase::LoadOwn => after_own(task, own, word),
         Phase::LoadExit => after_load_exit(task, own, word),
-        Phase::LinkExit => after_exit_swap(own, made, Phase::ClearExit, linked()),
+        Phase::LinkExit => after_exit_swap(own, made, Phase::ClearExit, linked(own.head, task)),
         Phase::ClearExit => after_exit_swap(own, made, Phase::Retract, 0),
         Phase::ReleaseExit => after_exit_swap(own, made, Phase::Retract, 0),
         Phase::Retract => kept_end(own.payload),
-        Phase::ClearHead => store_again(!made, Phase::ReloadClear, 0, own.head),
-        Phase::ReloadClear => store_again(marked(), Phase::ClearHead, 0, word),
+        Phase::ClearHead => swap_again(!made, Phase::ReloadClear, 0, own.head),
+        Phase::ReloadClear => swap_again(marked(word, task), Phase::ClearHead, 0, word),
         Phase::Apply(j) => after_apply(own, j, made),
-        Phase::ReloadApply(j) => store_again(marked(), Phase::Apply(j), own.payload, word),
+        Phase::ReloadApply(j) => swap_again(marked(word, task), Phase::Apply(j), own.payload, word),
         Phase::LoadHelped(j) => Next::with_both(Phase::LinkHelped(j), own.head, word),
         Phase::LinkHelped(j) => after_link_helped(task, own, j, made),
-        Phase::Validate(j) => after_validate(own, j, marked()),
+        Phase::Validate(j) => after_validate(own, j, marked(word, task)),
         Phase::HandOver(j) => help_again(!made, Phase::ReloadHandOver(j), own, own.announcement),
-        Phase::ReloadHandOver(j) => help_again(marked(), Phase::HandOver(j), own, word),
+        Phase::ReloadHandOver(j) => help_again(marked(word, task), Phase::HandOver(j), own, word),
         Phase::Release(j) => help_again(!made, Phase::ReloadRelease(j), own, own.announcement),
-        Phase::ReloadRelease(j) => help_again(marked(), Phase::Release(j), own, word),
+        Phase::ReloadRelease(j) => help_again(marked(word, task), Phase::Release(j), own, word),
     }
 }
