@@ -83,7 +83,7 @@ pub fn reply_line(reply: Reply) -> Text
                 &[task as u64, response as u64, bit::bit_of(moved) as u64],
             )
         }
-        Reply::Refused(cause) => number_line(b'x', &[refusal::number(cause) as u64]),
+        Reply::Refused(cause) => number_line(b'x', &[u8::from(cause) as u64]),
     }
 }
 

@@ -36,7 +36,7 @@ fn report<P: Print>(rt: &P, file: &[u8]) {
     match checked {
         Err(cause) => {
             print_bytes(rt, b"x");
-            print_field(rt, refusal::number(cause) as u16);
+            print_field(rt, u16::from(u8::from(cause)));
         }
         Ok(shape) => {
             print_bytes(rt, b"ok");

@@ -41,7 +41,7 @@ fn ended_flags(moved: bool) -> u8
 fn refused_word(cause: Refusal) -> u64
     ensures { result ≡ refused_word cause }
 {
-    word(refusal::number(cause), 0, 0, 0)
+    word(u8::from(cause), 0, 0, 0)
 }
 
 // Two numbers in the halves of one.
@@ -63,19 +63,9 @@ fn check_word(answer: Result<Shape, Refusal>) -> u64
     }
 }
 
-// The word of what a start answers.
-fn start_word(answer: Result<(), Refusal>) -> u64
-    ensures { result ≡ start_word answer }
-{
-    match answer {
-        Ok(()) => word(0, 0, 0, 0),
-        Err(cause) => refused_word(cause),
-    }
-}
-
-// The word of what a begin answers.
-fn begin_word(answer: Result<(), Refusal>) -> u64
-    ensures { result ≡ begin_word answer }
+// The word of what a call answers that tells nothing but that it is served: a start, a begin, a window call.
+fn served_word(answer: Result<(), Refusal>) -> u64
+    ensures { (result ≡ start_word answer) × (result ≡ begin_word answer) × (result ≡ window_word answer) }
 {
     match answer {
         Ok(()) => word(0, 0, 0, 0),
@@ -98,16 +88,6 @@ fn step_word(answer: Result<Progress, Refusal>) -> u64
     }
 }
 
-// The word of what a window call answers.
-fn window_word(answer: Result<(), Refusal>) -> u64
-    ensures { result ≡ window_word answer }
-{
-    match answer {
-        Ok(()) => word(0, 0, 0, 0),
-        Err(cause) => refused_word(cause),
-    }
-}
-
 // The word of an interrupt line.
 fn line_word(answer: Result<LineLevel, Refusal>) -> u64
     ensures { result ≡ line_word answer }
@@ -119,12 +99,12 @@ fn line_word(answer: Result<LineLevel, Refusal>) -> u64
     }
 }
 
-// The word of a ceiling.
-fn ceiling_word(answer: Result<u32, Refusal>) -> u64
-    ensures { result ≡ ceiling_word answer }
+// The word of what a call answers that tells one number: a ceiling, or the length of what was written into lent room.
+fn number_word(answer: Result<u32, Refusal>) -> u64
+    ensures { (result ≡ ceiling_word answer) × (result ≡ written_word answer) }
 {
     match answer {
-        Ok(steps) => word(0, 0, 0, steps),
+        Ok(number) => word(0, 0, 0, number),
         Err(cause) => refused_word(cause),
     }
 }
@@ -136,16 +116,6 @@ fn owner_word(answer: OwnerAnswer) -> u64
     match answer {
         OwnerAnswer::Ring(number) => word(0, 0, number, 0),
         OwnerAnswer::Refused(cause) => refused_word(cause),
-    }
-}
-
-// The word of what was written into lent room.
-fn written_word(answer: Result<u32, Refusal>) -> u64
-    ensures { result ≡ written_word answer }
-{
-    match answer {
-        Ok(length) => word(0, 0, 0, length),
-        Err(cause) => refused_word(cause),
     }
 }
 
@@ -174,7 +144,7 @@ pub extern "C" fn drive_check(file: &[u8]) -> u64
 pub extern "C" fn drive_ceiling(tasks: usize) -> u64
     ensures { result ≡ ceiling_word (ceiling_of tasks) }
 {
-    ceiling_word(ceiling::ceiling_for(tasks))
+    number_word(ceiling::ceiling_for(tasks))
 }
 
 // Writes the one file of a table's object at the room's start.
@@ -182,7 +152,7 @@ pub extern "C" fn drive_ceiling(tasks: usize) -> u64
 pub extern "C" fn drive_canonical(file: &[u8], room: &mut [u8]) -> u64
     ensures { (room.new ≡ (canonical_written file.now room.old).room) × (result ≡ written_word (canonical_written file.now room.old).answer) }
 {
-    written_word(canonical::write_canonical(file, room))
+    number_word(canonical::write_canonical(file, room))
 }
 
 // Whether the jack console can force a target, and by which operation it opens.
@@ -198,7 +168,7 @@ pub extern "C" fn drive_force(file: &[u8], state: usize, targets: &[u8], moves: 
 pub extern "C" fn drive_start(file: &[u8], cells: &mut [u64], row: &mut [Task]) -> u64
     ensures { (cells.new ≡ (start_of file.now cells.old row.old).cells) × (row.new ≡ (start_of file.now cells.old row.old).row) × (result ≡ start_word (start_of file.now cells.old row.old).answer) }
 {
-    start_word(drive::start(file, cells, row))
+    served_word(drive::start(file, cells, row))
 }
 
 // Begins an operation for a task.
@@ -206,7 +176,7 @@ pub extern "C" fn drive_start(file: &[u8], cells: &mut [u64], row: &mut [Task]) 
 pub extern "C" fn drive_begin(file: &[u8], row: &mut [Task], task: usize, operation: usize) -> u64
     ensures { (row.new ≡ (begin_of file.now row.old task operation).row) × (result ≡ begin_word (begin_of file.now row.old task operation).answer) }
 {
-    begin_word(drive::begin(file, row, task, operation))
+    served_word(drive::begin(file, row, task, operation))
 }
 
 // Makes one step for a task.
@@ -228,7 +198,7 @@ pub extern "C" fn drive_begin_record(
 ) -> u64
     ensures { (own.new ≡ (begin_task file.now tasks task operation own.old).task) × (result ≡ begin_word (begin_task file.now tasks task operation own.old).answer) }
 {
-    begin_word(drive::begin_record(file, tasks, task, operation, own))
+    served_word(drive::begin_record(file, tasks, task, operation, own))
 }
 
 // Makes one step for a task whose record is lent.
@@ -256,7 +226,7 @@ pub extern "C" fn drive_window(
 ) -> u64
     ensures { (cells.new ≡ (window_of file.now cells.old row.old windows.old task).cells) × (row.new ≡ (window_of file.now cells.old row.old windows.old task).row) × (windows.new ≡ (window_of file.now cells.old row.old windows.old task).windows) × (result ≡ window_word (window_of file.now cells.old row.old windows.old task).answer) }
 {
-    window_word(window_calls::serve_window(file, cells, row, windows, task))
+    served_word(window_calls::serve_window(file, cells, row, windows, task))
 }
 
 // Whether the interrupt line of a task is up.
@@ -280,5 +250,5 @@ pub extern "C" fn desk_owner(rings: &[u32], chainage: u64) -> u64
 pub extern "C" fn desk_table(rings: &[u32], room: &mut [u8]) -> u64
     ensures { (room.new ≡ (table_of rings.now room.old).room) × (result ≡ written_word (table_of rings.now room.old).answer) }
 {
-    written_word(ring_desk::write_table(rings, room))
+    number_word(ring_desk::write_table(rings, room))
 }

@@ -47,28 +47,30 @@ pub enum Refusal {
 }
 
 // The number that is returned for a cause.
-pub fn number(cause: Refusal) -> u8
-    ensures { result ≡ number_of cause }
-{
-    match cause {
-        Refusal::File => 1,
-        Refusal::Dimensions => 2,
-        Refusal::Length => 3,
-        Refusal::NextState => 4,
-        Refusal::Row => 5,
-        Refusal::Cells => 6,
-        Refusal::Task => 7,
-        Refusal::Operation => 8,
-        Refusal::Pending => 9,
-        Refusal::Idle => 10,
-        Refusal::Record => 11,
-        Refusal::Cell => 12,
-        Refusal::Line => 13,
-        Refusal::Rings => 14,
-        Refusal::Chainage => 15,
-        Refusal::Room => 16,
-        Refusal::Unacknowledged => 17,
-        Refusal::Window => 18,
-        Refusal::Question => 19,
+impl From<Refusal> for u8 {
+    ghost from_gives = { λ cause number. number ≡ number_of cause };
+
+    fn from(cause: Refusal) -> u8 {
+        match cause {
+            Refusal::File => 1,
+            Refusal::Dimensions => 2,
+            Refusal::Length => 3,
+            Refusal::NextState => 4,
+            Refusal::Row => 5,
+            Refusal::Cells => 6,
+            Refusal::Task => 7,
+            Refusal::Operation => 8,
+            Refusal::Pending => 9,
+            Refusal::Idle => 10,
+            Refusal::Record => 11,
+            Refusal::Cell => 12,
+            Refusal::Line => 13,
+            Refusal::Rings => 14,
+            Refusal::Chainage => 15,
+            Refusal::Room => 16,
+            Refusal::Unacknowledged => 17,
+            Refusal::Window => 18,
+            Refusal::Question => 19,
+        }
     }
 }

@@ -58,7 +58,7 @@ pub(crate) fn write_refused(windows: &mut [u8], task: usize, cause: Refusal)
     let raised = status::interrupt_byte(true, byte_at(windows, task, INTERRUPT));
     take(windows, task);
     put(windows, task, STATUS, marked);
-    put(windows, task, REFUSAL, refusal::number(cause));
+    put(windows, task, REFUSAL, u8::from(cause));
     put(windows, task, INTERRUPT, raised);
 }
 
