@@ -8,7 +8,6 @@ use Prim.Native.Nat.{ℕ, zero, suc, ◌+◌, ◌*◌, ◌-◌, ◌%◌, ◌≤�
 use native.Mathlib.Nat.{mod-lt}
 use native.Mathlib.Omega.{arith}
 use borrow.Author.Tests.{eqb-true, ne_eqb, le-leb, lt-leb, lt-ltb, le-ltb, ltb-true, leb-true, leb-false}
-use lib.Arith.{lt_of_le-ne}
 use lib.Dec.{eqb, leb, ltb}
 use lib.ListN.{length, get_or}
 use Rattle.laws.specs.Below.{all_below}
@@ -135,29 +134,8 @@ known (Release j) h = worker 7 j (omega arith) h
 known (ReloadRelease j) h = worker 8 j (omega arith) h
 
 -- Past the last range there is no phase.
-pub unknown : (k : ℕ) → 87 < k → phase_of k ≡ Err cause.Record
+unknown : (k : ℕ) → 87 < k → phase_of k ≡ Err cause.Record
 unknown k h = past_singles k (omega arith) ∙ past_ranges working k 16 (omega arith)
-
--- A number of a range is the range's start and the number of a task.
-pub placed : (first k : ℕ) → first ≤ k → k < first + 8 → (k ≡ first + (k - first)) × (k - first < 8)
-placed first k l h = (omega arith, omega arith)
-
--- The number k is none of those below m.
-abbrev Apart : ℕ → ℕ → Type 0
-Apart k zero = Unit {0}
-Apart k (suc m) = Apart k m × (k ≡ m → ⊥)
-
-apart_above : (k m : ℕ) → Apart k m → m ≤ k
-apart_above k zero a = omega arith
-apart_above k (suc m) a = lt_of_le-ne (apart_above k m a.0) (λ e. a.1 (sym e))
-
--- Between the single numbers and the ranges there is no phase.
-pub unused : (k : ℕ) → k < 16 → Apart k 15 → phase_of k ≡ Err cause.Record
-unfolding phase_of
-unused k h a =
-    let above : 15 ≤ k = apart_above k 15 a in
-    let e : k ≡ 15 = omega arith in
-    ap phase_of e
 
 -- What is read from the number k: a phase with that number, which works for a task below n, or the refusal with 11.
 record Named (n k : ℕ) (read : Result Phase Refusal) : Type 0 where

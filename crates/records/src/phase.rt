@@ -34,67 +34,73 @@ pub enum Phase {
 }
 
 // The phase of a number. The retry phases are ranges of eight, a number for each task; another number is refused with 11.
-#[tactic(auto, using(crate::proofs::Phases::known, crate::proofs::Phases::unknown, crate::proofs::Phases::unused, crate::proofs::Phases::placed), unfolding(crate::specs::Phase::phase_of))]
-pub fn read_phase(number: u32) -> Result<Phase, Refusal>
-    ensures { result ≡ phase_of number }
-{
-    match number {
-        0 => Ok(Phase::Idle),
-        1 => Ok(Phase::ReadOnly),
-        2 => Ok(Phase::Announce),
-        3 => Ok(Phase::Poll),
-        4 => Ok(Phase::LoadHead),
-        5 => Ok(Phase::LinkHead),
-        6 => Ok(Phase::LoadPriority),
-        7 => Ok(Phase::LoadOwn),
-        8 => Ok(Phase::LoadExit),
-        9 => Ok(Phase::LinkExit),
-        10 => Ok(Phase::ClearExit),
-        11 => Ok(Phase::ReleaseExit),
-        12 => Ok(Phase::Retract),
-        13 => Ok(Phase::ClearHead),
-        14 => Ok(Phase::ReloadClear),
-        16..=23 => Ok(Phase::Apply((number - 16) as u8)),
-        24..=31 => Ok(Phase::ReloadApply((number - 24) as u8)),
-        32..=39 => Ok(Phase::LoadHelped((number - 32) as u8)),
-        40..=47 => Ok(Phase::LinkHelped((number - 40) as u8)),
-        48..=55 => Ok(Phase::Validate((number - 48) as u8)),
-        56..=63 => Ok(Phase::HandOver((number - 56) as u8)),
-        64..=71 => Ok(Phase::ReloadHandOver((number - 64) as u8)),
-        72..=79 => Ok(Phase::Release((number - 72) as u8)),
-        80..=87 => Ok(Phase::ReloadRelease((number - 80) as u8)),
-        _ => Err(Refusal::Record),
+impl TryFrom<u32> for Phase {
+    type Error = Refusal;
+
+    ghost try_from_gives = { λ number read. read ≡ phase_of number };
+
+    #[tactic(auto, unfolding(crate::specs::Phase::phase_of))]
+    fn try_from(number: u32) -> Result<Phase, Refusal> {
+        match number {
+            0 => Ok(Phase::Idle),
+            1 => Ok(Phase::ReadOnly),
+            2 => Ok(Phase::Announce),
+            3 => Ok(Phase::Poll),
+            4 => Ok(Phase::LoadHead),
+            5 => Ok(Phase::LinkHead),
+            6 => Ok(Phase::LoadPriority),
+            7 => Ok(Phase::LoadOwn),
+            8 => Ok(Phase::LoadExit),
+            9 => Ok(Phase::LinkExit),
+            10 => Ok(Phase::ClearExit),
+            11 => Ok(Phase::ReleaseExit),
+            12 => Ok(Phase::Retract),
+            13 => Ok(Phase::ClearHead),
+            14 => Ok(Phase::ReloadClear),
+            16..=23 => Ok(Phase::Apply((number - 16) as u8)),
+            24..=31 => Ok(Phase::ReloadApply((number - 24) as u8)),
+            32..=39 => Ok(Phase::LoadHelped((number - 32) as u8)),
+            40..=47 => Ok(Phase::LinkHelped((number - 40) as u8)),
+            48..=55 => Ok(Phase::Validate((number - 48) as u8)),
+            56..=63 => Ok(Phase::HandOver((number - 56) as u8)),
+            64..=71 => Ok(Phase::ReloadHandOver((number - 64) as u8)),
+            72..=79 => Ok(Phase::Release((number - 72) as u8)),
+            80..=87 => Ok(Phase::ReloadRelease((number - 80) as u8)),
+            _ => Err(Refusal::Record),
+        }
     }
 }
 
 // The number of a phase.
-pub fn phase_number(phase: Phase) -> u32
-    ensures { result ≡ phase_number phase }
-{
-    match phase {
-        Phase::Idle => 0,
-        Phase::ReadOnly => 1,
-        Phase::Announce => 2,
-        Phase::Poll => 3,
-        Phase::LoadHead => 4,
-        Phase::LinkHead => 5,
-        Phase::LoadPriority => 6,
-        Phase::LoadOwn => 7,
-        Phase::LoadExit => 8,
-        Phase::LinkExit => 9,
-        Phase::ClearExit => 10,
-        Phase::ReleaseExit => 11,
-        Phase::Retract => 12,
-        Phase::ClearHead => 13,
-        Phase::ReloadClear => 14,
-        Phase::Apply(j) => 16 + j as u32,
-        Phase::ReloadApply(j) => 24 + j as u32,
-        Phase::LoadHelped(j) => 32 + j as u32,
-        Phase::LinkHelped(j) => 40 + j as u32,
-        Phase::Validate(j) => 48 + j as u32,
-        Phase::HandOver(j) => 56 + j as u32,
-        Phase::ReloadHandOver(j) => 64 + j as u32,
-        Phase::Release(j) => 72 + j as u32,
-        Phase::ReloadRelease(j) => 80 + j as u32,
+impl From<Phase> for u32 {
+    ghost from_gives = { λ phase number. number ≡ phase_number phase };
+
+    fn from(phase: Phase) -> u32 {
+        match phase {
+            Phase::Idle => 0,
+            Phase::ReadOnly => 1,
+            Phase::Announce => 2,
+            Phase::Poll => 3,
+            Phase::LoadHead => 4,
+            Phase::LinkHead => 5,
+            Phase::LoadPriority => 6,
+            Phase::LoadOwn => 7,
+            Phase::LoadExit => 8,
+            Phase::LinkExit => 9,
+            Phase::ClearExit => 10,
+            Phase::ReleaseExit => 11,
+            Phase::Retract => 12,
+            Phase::ClearHead => 13,
+            Phase::ReloadClear => 14,
+            Phase::Apply(j) => 16 + u32::from(j),
+            Phase::ReloadApply(j) => 24 + u32::from(j),
+            Phase::LoadHelped(j) => 32 + u32::from(j),
+            Phase::LinkHelped(j) => 40 + u32::from(j),
+            Phase::Validate(j) => 48 + u32::from(j),
+            Phase::HandOver(j) => 56 + u32::from(j),
+            Phase::ReloadHandOver(j) => 64 + u32::from(j),
+            Phase::Release(j) => 72 + u32::from(j),
+            Phase::ReloadRelease(j) => 80 + u32::from(j),
+        }
     }
 }

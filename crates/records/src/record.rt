@@ -1,8 +1,7 @@
 // A task's private record, and its forms.
 ghost use Rattle.std.specs.Prelude.{◌≡◌};
-ghost use Rattle.records.specs.Record.{idle_task, idle_in_form, names_task, saved_payload_in_form, numbers_in_form, words_in_form, pending_in_form, record_in_form, read_record};
+ghost use Rattle.records.specs.Record.{idle_task, idle_in_form, names_task, saved_payload_in_form, numbers_in_form, words_in_form, record_in_form, read_record};
 
-use crate::phase;
 use crate::phase::Phase;
 use cells::form;
 use refusal::Refusal;
@@ -10,7 +9,7 @@ use table::Shape;
 
 // Which fields a phase uses, and their forms and ranges, stand in docs/RECORDS.md. Its size is 32 bytes, without gaps.
 #[repr(C)]
-#[derive(Clone, Copy)]
+#[derive(Clone, Copy, PartialEq, Eq)]
 pub struct Task {
     // A saved head.
     pub head: u64,
@@ -54,22 +53,11 @@ pub fn idle_task(priority: u16) -> Task
 pub fn idle_in_form(tasks: usize, own: Task) -> bool
     ensures { result ≡ idle_in_form tasks own }
 {
-    if own.priority as usize >= tasks {
-        return false;
-    }
-    if own.head != 0 {
-        return false;
-    }
-    if own.announcement != 0 {
-        return false;
-    }
-    if own.payload != 0 {
-        return false;
-    }
-    if own.steps != 0 {
-        return false;
-    }
-    own.operation == 0
+    let idle = Task {
+        phase: own.phase,
+        ..idle_task(own.priority)
+    };
+    usize::from(own.priority) < tasks && own == idle
 }
 
 // Whether the task that a phase works for is below `tasks`.
@@ -77,10 +65,7 @@ pub fn idle_in_form(tasks: usize, own: Task) -> bool
 fn names_task(tasks: usize, phase: u32) -> bool
     ensures { result ≡ names_task tasks phase }
 {
-    if phase < FIRST_NAMING {
-        return true;
-    }
-    ((phase % 8) as usize) < tasks
+    phase < FIRST_NAMING || ((phase % 8) as usize) < tasks
 }
 
 // Whether the payload is an operation, in the phases that apply it.
@@ -88,13 +73,10 @@ fn names_task(tasks: usize, phase: u32) -> bool
 fn payload_in_form(operations: u16, own: Task) -> bool
     ensures { result ≡ saved_payload_in_form operations own }
 {
-    if own.phase < FIRST_NAMING {
-        return true;
+    match own.phase {
+        FIRST_NAMING..=LAST_APPLYING => own.payload < u32::from(operations),
+        _ => true,
     }
-    if own.phase > LAST_APPLYING {
-        return true;
-    }
-    own.payload < operations as u32
 }
 
 // Whether the numbers of a pending record are in range.
@@ -102,19 +84,11 @@ fn payload_in_form(operations: u16, own: Task) -> bool
 pub fn numbers_in_form(shape: Shape, tasks: usize, ceiling: u32, own: Task) -> bool
     ensures { result ≡ numbers_in_form shape tasks ceiling own }
 {
-    if !names_task(tasks, own.phase) {
-        return false;
-    }
-    if own.operation >= shape.operations {
-        return false;
-    }
-    if own.priority as usize >= tasks {
-        return false;
-    }
-    if own.steps >= ceiling {
-        return false;
-    }
-    payload_in_form(shape.operations, own)
+    names_task(tasks, own.phase)
+        && own.operation < shape.operations
+        && usize::from(own.priority) < tasks
+        && own.steps < ceiling
+        && payload_in_form(shape.operations, own)
 }
 
 // Whether the saved words of a record are in form.
@@ -122,32 +96,20 @@ pub fn numbers_in_form(shape: Shape, tasks: usize, ceiling: u32, own: Task) -> b
 pub fn words_in_form(shape: Shape, tasks: usize, own: Task) -> bool
     ensures { result ≡ words_in_form shape tasks own }
 {
-    if !form::head_in_form(own.head, shape.states as u32, tasks) {
-        return false;
-    }
-    form::announcement_in_form(own.announcement, shape.operations as u32, tasks)
+    form::head_in_form(own.head, u32::from(shape.states), tasks)
+        && form::announcement_in_form(own.announcement, u32::from(shape.operations), tasks)
 }
 
-// Whether a record is in the pending form.
-#[tactic(auto, unfolding(crate::specs::Record::pending_in_form))]
-fn pending_in_form(shape: Shape, tasks: usize, ceiling: u32, own: Task) -> bool
-    ensures { result ≡ pending_in_form shape tasks ceiling own }
-{
-    if !numbers_in_form(shape, tasks, ceiling, own) {
-        return false;
-    }
-    words_in_form(shape, tasks, own)
-}
-
-// Whether a record is in the form of its phase.
-#[tactic(auto, unfolding(crate::specs::Record::record_in_form))]
+// Whether a record is in the form of its phase: idle in phase 0, and pending in every other.
+#[tactic(auto, unfolding(crate::specs::Record::record_in_form, crate::specs::Record::pending_in_form))]
 fn record_in_form(shape: Shape, tasks: usize, ceiling: u32, own: Task) -> bool
     ensures { result ≡ record_in_form shape tasks ceiling own }
 {
     if own.phase == 0 {
-        return idle_in_form(tasks, own);
+        idle_in_form(tasks, own)
+    } else {
+        numbers_in_form(shape, tasks, ceiling, own) && words_in_form(shape, tasks, own)
     }
-    pending_in_form(shape, tasks, ceiling, own)
 }
 
 // The phase of a record; one that is out of form is refused with 11.
@@ -155,9 +117,10 @@ fn record_in_form(shape: Shape, tasks: usize, ceiling: u32, own: Task) -> bool
 pub fn read_record(shape: Shape, tasks: usize, ceiling: u32, own: Task) -> Result<Phase, Refusal>
     ensures { result ≡ read_record shape tasks ceiling own }
 {
-    let phase = phase::read_phase(own.phase)?;
-    if !record_in_form(shape, tasks, ceiling, own) {
-        return Err(Refusal::Record);
+    let phase = Phase::try_from(own.phase)?;
+    if record_in_form(shape, tasks, ceiling, own) {
+        Ok(phase)
+    } else {
+        Err(Refusal::Record)
     }
-    Ok(phase)
 }

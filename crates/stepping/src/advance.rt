@@ -6,7 +6,7 @@ ghost use Rattle.stepping.specs.Step.{advance_of, answer_of};
 use crate::answer::{Progress, Step};
 use records::phase::Phase;
 use records::record::Task;
-use records::{phase, record};
+use records::record;
 use transition::access::Next;
 
 // The task after a task, in turn.
@@ -36,7 +36,7 @@ fn stepped(
         steps,
         operation: own.operation,
         priority,
-        phase: phase::phase_number(next),
+        phase: u32::from(next),
     }
 }
 

@@ -13,7 +13,7 @@ use crate::{advance, perform};
 use cells::ceiling;
 use records::phase::Phase;
 use records::record::Task;
-use records::{phase, record};
+use records::record;
 use refusal::Refusal;
 use table::Shape;
 use transition::{entry, next, plan};
@@ -62,9 +62,9 @@ fn first_phase(file: &[u8], shape: Shape, operation: u16) -> u32
     ensures { result ≡ cond (changing file.now shape operation) (phase_number Phase.Announce) (phase_number Phase.ReadOnly) }
 {
     if reach::is_changing(file, shape, operation) {
-        return phase::phase_number(Phase::Announce);
+        return u32::from(Phase::Announce);
     }
-    phase::phase_number(Phase::ReadOnly)
+    u32::from(Phase::ReadOnly)
 }
 
 // The record of a task that has begun an operation.
@@ -214,7 +214,7 @@ fn step_in(
     if tasks <= task {
         return Err(Refusal::Task);
     }
-    let phase = phase::read_phase(own.phase)?;
+    let phase = Phase::try_from(own.phase)?;
     step_known(file, cells, admission, tasks, task, own, phase)
 }
 

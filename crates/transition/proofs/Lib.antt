@@ -1,4 +1,3 @@
-mod Defaults
 pub mod EncodedCells
 pub mod Payloads
 pub mod Plans

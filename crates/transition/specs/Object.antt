@@ -1,5 +1,5 @@
 -- The object of a table.
-use Rattle.std.specs.Prelude.{◌≡◌, List, ℕ, ◌^◌, Ok, Err}
+use Rattle.std.specs.Prelude.{◌≡◌, List, ℕ, ◌^◌, Ok}
 use Rattle.cells.specs.Layout.{response_width}
 use Rattle.table.specs.declared.Shape.{Shape}
 use Rattle.table.specs.File.{Bytes}

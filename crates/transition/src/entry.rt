@@ -9,7 +9,6 @@ use records::record::Task;
 use table::Shape;
 
 // Whether the one entry that a step uses is in range, if it uses one.
-#[tactic(auto, using(crate::proofs::Defaults::no_entry))]
 pub fn used_in_range(file: &[u8], shape: Shape, own: Task, word: u64, phase: Phase) -> bool
     ensures { result ≡ used_in_range file.now shape own word phase }
 {

@@ -14,68 +14,100 @@ use records::phase::Phase;
 use records::record::Task;
 use table::Shape;
 
-// What an access told: the word that was read, 0 if none was, and whether the swap was made.
-#[derive(Clone, Copy)]
-struct Told {
-    word: u64,
-    made: bool,
-}
+// What an access gave back, as a phase asks for it.
+impl Found {
+    // The word that was read, 0 if none was.
+    fn word(self) -> u64
+        ensures { result ≡ word_in self }
+    {
+        match self {
+            Found::Word(word) => word,
+            Found::Stored | Found::Swapped | Found::Unswapped => 0,
+        }
+    }
 
-fn told_by(found: Found) -> Told
-    ensures { (result.word ≡ word_in found) × (result.made ≡ made_in found) }
-{
-    match found {
-        Found::Word(word) => Told { word, made: false },
-        Found::Stored => Told {
-            word: 0,
-            made: false,
-        },
-        Found::Swapped => Told {
-            word: 0,
-            made: true,
-        },
-        Found::Unswapped => Told {
-            word: 0,
-            made: false,
-        },
+    // Whether the swap was made.
+    fn made(self) -> bool
+        ensures { result ≡ made_in self }
+    {
+        matches!(self, Found::Swapped)
     }
 }
 
-// Another phase that keeps these.
-fn go(phase: Phase, payload: u32, head: u64, announcement: u64) -> Next
-    ensures { result ≡ Next.Go phase payload head announcement }
-{
-    Next::Go {
-        phase,
-        payload,
-        head,
-        announcement,
+// Another phase, by what it keeps; a field in which it keeps nothing is 0.
+impl Next {
+    fn bare(phase: Phase) -> Next
+        ensures { result ≡ bare phase }
+    {
+        Next::with_payload_and_head(phase, 0, 0)
+    }
+
+    fn with_payload(phase: Phase, payload: u32) -> Next
+        ensures { result ≡ with_payload phase payload }
+    {
+        Next::with_payload_and_head(phase, payload, 0)
+    }
+
+    fn with_head(phase: Phase, head: u64) -> Next
+        ensures { result ≡ with_head phase head }
+    {
+        Next::with_payload_and_head(phase, 0, head)
+    }
+
+    fn with_payload_and_head(phase: Phase, payload: u32, head: u64) -> Next
+        ensures { result ≡ Next.Go phase payload head 0 }
+    {
+        Next::Go {
+            phase,
+            payload,
+            head,
+            announcement: 0,
+        }
+    }
+
+    fn with_both(phase: Phase, head: u64, announcement: u64) -> Next
+        ensures { result ≡ with_both phase head announcement }
+    {
+        Next::Go {
+            phase,
+            payload: 0,
+            head,
+            announcement,
+        }
+    }
+
+    // The exit, with the own outcome.
+    fn to_exit(response: u16, moved: bool) -> Next
+        ensures { result ≡ to_exit response moved }
+    {
+        Next::with_payload(Phase::LoadExit, words::payload_of(response, moved))
     }
 }
 
-// Another phase that keeps nothing.
-fn to(phase: Phase) -> Next
-    ensures { result ≡ bare phase }
+// Whether a task's mark stands in a word.
+fn marked(word: u64, task: u8) -> bool
+    ensures { result ≡ has_mark task word }
 {
-    go(phase, 0, 0, 0)
+    marks::has_mark(word, usize::from(task))
 }
 
-// The exit, with the own outcome.
-fn to_exit(response: u16, moved: bool) -> Next
-    ensures { result ≡ to_exit response moved }
+// A word with a task's mark.
+fn linked(word: u64, task: u8) -> u64
+    ensures { result ≡ add_mark task word }
 {
-    go(Phase::LoadExit, words::payload_of(response, moved), 0, 0)
+    marks::add_mark(word, usize::from(task))
 }
+
+// After a link that fails a task looks for its own response before it tries again.
+const AFTER_FAILED_LINK: Phase = Phase::Poll;
 
 // By the own announcement: a response leads to the exit.
 fn after_poll(word: u64) -> Next
     ensures { result ≡ after_poll (announcement_of word) }
 {
-    let found = announcement::read_announcement(word);
-    match found {
-        Announcement::Empty => to(Phase::LoadHead),
-        Announcement::Operation(_) => to(Phase::LoadHead),
-        Announcement::Response(response, moved) => to_exit(response, moved),
+    match announcement::read_announcement(word) {
+        Announcement::Empty | Announcement::Operation(_) => Next::bare(Phase::LoadHead),
+        Announcement::Response(response, moved) => Next::to_exit(response, moved),
     }
 }
 
@@ -84,47 +116,33 @@ fn after_link(word: u64, found: Head) -> Next
     ensures { result ≡ after_link word found }
 {
     match found {
-        Head::Free { state: _ } => go(Phase::LoadPriority, 0, word, 0),
-        Head::Held {
-            state: _,
-            task,
-            response: _,
-            moved: _,
-        } => go(Phase::LoadHelped(task), 0, word, 0),
+        Head::Free { .. } => Next::with_head(Phase::LoadPriority, word),
+        Head::Held { task, .. } => Next::with_head(Phase::LoadHelped(task), word),
     }
-}
-
-// After a link that fails a task looks for its own response before it tries again.
-fn after_failed_link() -> Next
-    ensures { result ≡ failed_link }
-{
-    go(Phase::Poll, 0, 0, 0)
 }
 
 // After a swap that links the head.
 fn after_link_head(task: u8, own: Task, made: bool) -> Next
     ensures { result ≡ cond made (after_link (add_mark task own.head) (head_of own.head)) failed_link }
 {
-    if !made {
-        return after_failed_link();
+    if made {
+        after_link(linked(own.head, task), head::read_head(own.head))
+    } else {
+        Next::bare(AFTER_FAILED_LINK)
     }
-    after_link(
-        marks::add_mark(own.head, task as usize),
-        head::read_head(own.head),
-    )
 }
 
 // By the announcement of the task that is helped first: its operation is applied.
 fn after_priority(priority: u8, own: Task, word: u64) -> Next
     ensures { result ≡ after_priority own.head priority (announcement_of word) }
 {
-    let found = announcement::read_announcement(word);
-    match found {
-        Announcement::Empty => go(Phase::LoadOwn, 0, own.head, 0),
+    match announcement::read_announcement(word) {
         Announcement::Operation(operation) => {
-            go(Phase::Apply(priority), operation as u32, own.head, 0)
+            Next::with_payload_and_head(Phase::Apply(priority), u32::from(operation), own.head)
         }
-        Announcement::Response(_, _) => go(Phase::LoadOwn, 0, own.head, 0),
+        Announcement::Empty | Announcement::Response(_, _) => {
+            Next::with_head(Phase::LoadOwn, own.head)
+        }
     }
 }
 
@@ -132,13 +150,12 @@ fn after_priority(priority: u8, own: Task, word: u64) -> Next
 fn after_own(task: u8, own: Task, word: u64) -> Next
     ensures { result ≡ after_own own.head task (announcement_of word) }
 {
-    let found = announcement::read_announcement(word);
-    match found {
-        Announcement::Empty => to(Phase::Poll),
+    match announcement::read_announcement(word) {
+        Announcement::Empty => Next::bare(Phase::Poll),
         Announcement::Operation(operation) => {
-            go(Phase::Apply(task), operation as u32, own.head, 0)
+            Next::with_payload_and_head(Phase::Apply(task), u32::from(operation), own.head)
         }
-        Announcement::Response(handed, moved) => to_exit(handed, moved),
+        Announcement::Response(handed, moved) => Next::to_exit(handed, moved),
     }
 }
 
@@ -147,61 +164,45 @@ fn after_load_exit(task: u8, own: Task, word: u64) -> Next
     ensures { result ≡ after_exit own.payload word (has_mark task word) (holder_is task (head_of word)) }
 {
     let holder = words::holder_is(task, head::read_head(word));
-    if marks::has_mark(word, task as usize) {
-        if holder {
-            return go(Phase::ClearExit, own.payload, word, 0);
-        }
-        return go(Phase::ReleaseExit, own.payload, word, 0);
+    match (marked(word, task), holder) {
+        (true, true) => Next::with_payload_and_head(Phase::ClearExit, own.payload, word),
+        (true, false) => Next::with_payload_and_head(Phase::ReleaseExit, own.payload, word),
+        (false, true) => Next::with_payload_and_head(Phase::LinkExit, own.payload, word),
+        (false, false) => Next::with_payload(Phase::Retract, own.payload),
     }
-    if holder {
-        return go(Phase::LinkExit, own.payload, word, 0);
-    }
-    go(Phase::Retract, own.payload, 0, 0)
 }
 
-// The exit links a head that the task holds, to clear it.
-fn after_link_exit(task: u8, own: Task, made: bool) -> Next
-    ensures { result ≡ cond made (Next.Go Phase.ClearExit own.payload (add_mark task own.head) 0) (with_payload Phase.LoadExit own.payload) }
+// After a swap of the exit on the head; one that was not made starts the exit again.
+fn after_exit_swap(own: Task, made: bool, phase: Phase, head: u64) -> Next
+    ensures { result ≡ cond made (Next.Go phase own.payload head 0) (with_payload Phase.LoadExit own.payload) }
 {
     if made {
-        return go(
-            Phase::ClearExit,
-            own.payload,
-            marks::add_mark(own.head, task as usize),
-            0,
-        );
+        Next::with_payload_and_head(phase, own.payload, head)
+    } else {
+        Next::with_payload(Phase::LoadExit, own.payload)
     }
-    go(Phase::LoadExit, own.payload, 0, 0)
 }
 
-// After the exit's last swap on the head.
-fn after_leave(own: Task, made: bool) -> Next
-    ensures { result ≡ cond made (with_payload Phase.Retract own.payload) (with_payload Phase.LoadExit own.payload) }
+// A conditional store on the head is tried again, or the loop starts again.
+fn swap_again(again: bool, phase: Phase, payload: u32, head: u64) -> Next
+    ensures { result ≡ cond again (Next.Go phase payload head 0) (bare Phase.Poll) }
 {
-    if made {
-        return go(Phase::Retract, own.payload, 0, 0);
+    if again {
+        Next::with_payload_and_head(phase, payload, head)
+    } else {
+        Next::bare(Phase::Poll)
     }
-    go(Phase::LoadExit, own.payload, 0, 0)
 }
 
-// A head that was not cleared is read again.
-fn after_clear(own: Task, made: bool) -> Next
-    ensures { result ≡ cond made (bare Phase.Poll) (with_head Phase.ReloadClear own.head) }
+// A conditional store on a helped announcement is tried again, or the head is cleared.
+fn help_again(again: bool, phase: Phase, own: Task, announcement: u64) -> Next
+    ensures { result ≡ cond again (with_both phase own.head announcement) (with_head Phase.ClearHead own.head) }
 {
-    if made {
-        return to(Phase::Poll);
+    if again {
+        Next::with_both(phase, own.head, announcement)
+    } else {
+        Next::with_head(Phase::ClearHead, own.head)
     }
-    go(Phase::ReloadClear, 0, own.head, 0)
-}
-
-// A conditional store on the head is tried again while the own mark stands.
-fn after_reload(task: u8, again: Phase, payload: u32, word: u64) -> Next
-    ensures { result ≡ cond (has_mark task word) (Next.Go again payload word 0) (bare Phase.Poll) }
-{
-    if marks::has_mark(word, task as usize) {
-        return go(again, payload, word, 0);
-    }
-    to(Phase::Poll)
 }
 
 // An applied operation gives the turn to the next task.
@@ -209,64 +210,42 @@ fn after_apply(own: Task, helped: u8, made: bool) -> Next
     ensures { result ≡ cond made Next.Turn (Next.Go (Phase.ReloadApply helped) own.payload own.head 0) }
 {
     if made {
-        return Next::Turn;
+        Next::Turn
+    } else {
+        Next::with_payload_and_head(Phase::ReloadApply(helped), own.payload, own.head)
     }
-    go(Phase::ReloadApply(helped), own.payload, own.head, 0)
 }
 
 // A helper goes on only with a cell that holds an operation.
-#[tactic(auto, using(crate::proofs::Defaults::no_operation))]
 fn after_linked(own: Task, helped: u8, linked: u64) -> Next
     ensures { result ≡ after_link_helped own.head helped linked (announcement_of own.announcement) }
 {
     let Announcement::Operation(_) = announcement::read_announcement(own.announcement) else {
-        return go(Phase::Release(helped), 0, own.head, linked);
+        return Next::with_both(Phase::Release(helped), own.head, linked);
     };
-    go(Phase::Validate(helped), 0, own.head, linked)
+    Next::with_both(Phase::Validate(helped), own.head, linked)
 }
 
 // A link of the helped announcement that fails starts the loop again.
 fn after_link_helped(task: u8, own: Task, helped: u8, made: bool) -> Next
     ensures { result ≡ cond made (after_link_helped own.head helped (add_mark task own.announcement) (announcement_of own.announcement)) failed_link }
 {
-    if !made {
-        return after_failed_link();
+    if made {
+        after_linked(own, helped, linked(own.announcement, task))
+    } else {
+        Next::bare(AFTER_FAILED_LINK)
     }
-    after_linked(
-        own,
-        helped,
-        marks::add_mark(own.announcement, task as usize),
-    )
 }
 
 // The response is handed over only while the own mark stands in the head.
-fn after_validate(task: u8, own: Task, helped: u8, word: u64) -> Next
-    ensures { result ≡ cond (has_mark task word) (with_both (Phase.HandOver helped) own.head own.announcement) (with_both (Phase.Release helped) own.head own.announcement) }
+fn after_validate(own: Task, helped: u8, marked: bool) -> Next
+    ensures { result ≡ cond marked (with_both (Phase.HandOver helped) own.head own.announcement) (with_both (Phase.Release helped) own.head own.announcement) }
 {
-    if marks::has_mark(word, task as usize) {
-        return go(Phase::HandOver(helped), 0, own.head, own.announcement);
+    if marked {
+        Next::with_both(Phase::HandOver(helped), own.head, own.announcement)
+    } else {
+        Next::with_both(Phase::Release(helped), own.head, own.announcement)
     }
-    go(Phase::Release(helped), 0, own.head, own.announcement)
-}
-
-// After a swap on a helped announcement.
-fn after_help(own: Task, reload: Phase, made: bool) -> Next
-    ensures { result ≡ cond made (with_head Phase.ClearHead own.head) (with_both reload own.head own.announcement) }
-{
-    if made {
-        return go(Phase::ClearHead, 0, own.head, 0);
-    }
-    go(reload, 0, own.head, own.announcement)
-}
-
-// The swap on a helped announcement is tried again while the own mark stands.
-fn after_reload_helped(task: u8, own: Task, again: Phase, word: u64) -> Next
-    ensures { result ≡ cond (has_mark task word) (with_both again own.head word) (with_head Phase.ClearHead own.head) }
-{
-    if marks::has_mark(word, task as usize) {
-        return go(again, 0, own.head, word);
-    }
-    go(Phase::ClearHead, 0, own.head, 0)
 }
 
 // A reading operation ends with the outcome of the entry of the state that was read.
@@ -286,9 +265,10 @@ fn read_end(file: &[u8], shape: Shape, own: Task, word: u64) -> Next
 fn kept_end(payload: u32) -> Next
     ensures { result ≡ Next.End (named payload) (moved_by payload) }
 {
-    let response = words::named_by(payload);
-    let moved = words::moved_by(payload);
-    Next::End { response, moved }
+    Next::End {
+        response: words::named_by(payload),
+        moved: words::moved_by(payload),
+    }
 }
 
 // What the step of a task leads to. The priority is the number of the task that it helps first.
@@ -304,31 +284,32 @@ pub fn next(
 ) -> Next
     ensures { result ≡ next_of file.now shape task priority own phase found }
 {
-    let told = told_by(found);
+    let word = found.word();
+    let made = found.made();
     match phase {
-        Phase::Idle => to(Phase::Idle),
-        Phase::ReadOnly => read_end(file, shape, own, told.word),
-        Phase::Announce => to(Phase::Poll),
-        Phase::Poll => after_poll(told.word),
-        Phase::LoadHead => go(Phase::LinkHead, 0, told.word, 0),
-        Phase::LinkHead => after_link_head(task, own, told.made),
-        Phase::LoadPriority => after_priority(priority, own, told.word),
-        Phase::LoadOwn => after_own(task, own, told.word),
-        Phase::LoadExit => after_load_exit(task, own, told.word),
-        Phase::LinkExit => after_link_exit(task, own, told.made),
-        Phase::ClearExit => after_leave(own, told.made),
-        Phase::ReleaseExit => after_leave(own, told.made),
+        Phase::Idle => Next::bare(Phase::Idle),
+        Phase::ReadOnly => read_end(file, shape, own, word),
+        Phase::Announce => Next::bare(Phase::Poll),
+        Phase::Poll => after_poll(word),
+        Phase::LoadHead => Next::with_head(Phase::LinkHead, word),
+        Phase::LinkHead => after_link_head(task, own, made),
+        Phase::LoadPriority => after_priority(priority, own, word),
+        Phase::LoadOwn => after_own(task, own, word),
+        Phase::LoadExit => after_load_exit(task, own, word),
+        Phase::LinkExit => after_exit_swap(own, made, Phase::ClearExit, linked(own.head, task)),
+        Phase::ClearExit => after_exit_swap(own, made, Phase::Retract, 0),
+        Phase::ReleaseExit => after_exit_swap(own, made, Phase::Retract, 0),
         Phase::Retract => kept_end(own.payload),
-        Phase::ClearHead => after_clear(own, told.made),
-        Phase::ReloadClear => after_reload(task, Phase::ClearHead, 0, told.word),
-        Phase::Apply(j) => after_apply(own, j, told.made),
-        Phase::ReloadApply(j) => after_reload(task, Phase::Apply(j), own.payload, told.word),
-        Phase::LoadHelped(j) => go(Phase::LinkHelped(j), 0, own.head, told.word),
-        Phase::LinkHelped(j) => after_link_helped(task, own, j, told.made),
-        Phase::Validate(j) => after_validate(task, own, j, told.word),
-        Phase::HandOver(j) => after_help(own, Phase::ReloadHandOver(j), told.made),
-        Phase::ReloadHandOver(j) => after_reload_helped(task, own, Phase::HandOver(j), told.word),
-        Phase::Release(j) => after_help(own, Phase::ReloadRelease(j), told.made),
-        Phase::ReloadRelease(j) => after_reload_helped(task, own, Phase::Release(j), told.word),
+        Phase::ClearHead => swap_again(!made, Phase::ReloadClear, 0, own.head),
+        Phase::ReloadClear => swap_again(marked(word, task), Phase::ClearHead, 0, word),
+        Phase::Apply(j) => after_apply(own, j, made),
+        Phase::ReloadApply(j) => swap_again(marked(word, task), Phase::Apply(j), own.payload, word),
+        Phase::LoadHelped(j) => Next::with_both(Phase::LinkHelped(j), own.head, word),
+        Phase::LinkHelped(j) => after_link_helped(task, own, j, made),
+        Phase::Validate(j) => after_validate(own, j, marked(word, task)),
+        Phase::HandOver(j) => help_again(!made, Phase::ReloadHandOver(j), own, own.announcement),
+        Phase::ReloadHandOver(j) => help_again(marked(word, task), Phase::HandOver(j), own, word),
+        Phase::Release(j) => help_again(!made, Phase::ReloadRelease(j), own, own.announcement),
+        Phase::ReloadRelease(j) => help_again(marked(word, task), Phase::Release(j), own, word),
     }
 }

@@ -17,54 +17,56 @@ const HEAD: usize = 0;
 fn announcement_of(task: u8) -> usize
     ensures { result ≡ task + 1 }
 {
-    task as usize + 1
+    usize::from(task) + 1
 }
 
-// A read of the head.
-fn read_head() -> Access
-    ensures { result ≡ read_head }
-{
-    Access::Read { cell: HEAD }
-}
-
-// A read of a task's announcement.
-fn read_announcement(task: u8) -> Access
-    ensures { result ≡ read_announcement task }
-{
-    Access::Read {
-        cell: announcement_of(task),
+impl Access {
+    // A read of the head.
+    fn read_head() -> Access
+        ensures { result ≡ read_head }
+    {
+        Access::Read { cell: HEAD }
     }
-}
 
-// A write of a task's announcement.
-fn write_announcement(task: u8, written: u64) -> Access
-    ensures { result ≡ Access.Write (task + 1) written }
-{
-    Access::Write {
-        cell: announcement_of(task),
-        written,
+    // A read of a task's announcement.
+    fn read_announcement(task: u8) -> Access
+        ensures { result ≡ read_announcement task }
+    {
+        Access::Read {
+            cell: announcement_of(task),
+        }
     }
-}
 
-// A swap of the head, compared with the saved one.
-fn swap_head(own: Task, written: u64) -> Access
-    ensures { result ≡ swap_head own written }
-{
-    Access::Swap {
-        cell: HEAD,
-        compared: own.head,
-        written,
+    // A write of a task's announcement.
+    fn write_announcement(task: u8, written: u64) -> Access
+        ensures { result ≡ Access.Write (task + 1) written }
+    {
+        Access::Write {
+            cell: announcement_of(task),
+            written,
+        }
     }
-}
 
-// A swap of a task's announcement, compared with the saved one.
-fn swap_announcement(task: u8, own: Task, written: u64) -> Access
-    ensures { result ≡ swap_announcement task own written }
-{
-    Access::Swap {
-        cell: announcement_of(task),
-        compared: own.announcement,
-        written,
+    // A swap of the head, compared with the saved one.
+    fn swap_head(own: Task, written: u64) -> Access
+        ensures { result ≡ swap_head own written }
+    {
+        Access::Swap {
+            cell: HEAD,
+            compared: own.head,
+            written,
+        }
+    }
+
+    // A swap of a task's announcement, compared with the saved one.
+    fn swap_announcement(task: u8, own: Task, written: u64) -> Access
+        ensures { result ≡ swap_announcement task own written }
+    {
+        Access::Swap {
+            cell: announcement_of(task),
+            compared: own.announcement,
+            written,
+        }
     }
 }
 
@@ -74,7 +76,7 @@ fn applied(file: &[u8], shape: Shape, own: Task, task: u8) -> Access
     ensures { result ≡ plan_of file.now shape 0 0 own (Phase.Apply task) }
 {
     let operation = words::named_by(own.payload);
-    swap_head(
+    Access::swap_head(
         own,
         words::applied_word(file, shape, own.head, task, operation),
     )
@@ -85,31 +87,39 @@ fn applied(file: &[u8], shape: Shape, own: Task, task: u8) -> Access
 pub fn plan(file: &[u8], shape: Shape, task: u8, priority: u8, own: Task, phase: Phase) -> Access
     ensures { result ≡ plan_of file.now shape task priority own phase }
 {
-    let place = task as usize;
+    let place = usize::from(task);
     match phase {
-        Phase::Idle => read_head(),
-        Phase::ReadOnly => read_head(),
-        Phase::Announce => write_announcement(task, words::operation_word(own.operation)),
-        Phase::Poll => read_announcement(task),
-        Phase::LoadHead => read_head(),
-        Phase::LinkHead => swap_head(own, marks::add_mark(own.head, place)),
-        Phase::LoadPriority => read_announcement(priority),
-        Phase::LoadOwn => read_announcement(task),
-        Phase::LoadExit => read_head(),
-        Phase::LinkExit => swap_head(own, marks::add_mark(own.head, place)),
-        Phase::ClearExit => swap_head(own, words::cleared_word(own.head)),
-        Phase::ReleaseExit => swap_head(own, marks::remove_mark(own.head, place)),
-        Phase::Retract => write_announcement(task, 0),
-        Phase::ClearHead => swap_head(own, words::cleared_word(own.head)),
-        Phase::ReloadClear => read_head(),
+        Phase::Idle => Access::read_head(),
+        Phase::ReadOnly => Access::read_head(),
+        Phase::Announce => Access::write_announcement(task, words::operation_word(own.operation)),
+        Phase::Poll => Access::read_announcement(task),
+        Phase::LoadHead => Access::read_head(),
+        Phase::LinkHead => Access::swap_head(own, marks::add_mark(own.head, place)),
+        Phase::LoadPriority => Access::read_announcement(priority),
+        Phase::LoadOwn => Access::read_announcement(task),
+        Phase::LoadExit => Access::read_head(),
+        Phase::LinkExit => Access::swap_head(own, marks::add_mark(own.head, place)),
+        Phase::ClearExit => Access::swap_head(own, words::cleared_word(own.head)),
+        Phase::ReleaseExit => Access::swap_head(own, marks::remove_mark(own.head, place)),
+        Phase::Retract => Access::write_announcement(task, 0),
+        Phase::ClearHead => Access::swap_head(own, words::cleared_word(own.head)),
+        Phase::ReloadClear => Access::read_head(),
         Phase::Apply(j) => applied(file, shape, own, j),
-        Phase::ReloadApply(_) => read_head(),
-        Phase::LoadHelped(j) => read_announcement(j),
-        Phase::LinkHelped(j) => swap_announcement(j, own, marks::add_mark(own.announcement, place)),
-        Phase::Validate(_) => read_head(),
-        Phase::HandOver(j) => swap_announcement(j, own, words::response_word(own.head)),
-        Phase::ReloadHandOver(j) => read_announcement(j),
-        Phase::Release(j) => swap_announcement(j, own, marks::remove_mark(own.announcement, place)),
-        Phase::ReloadRelease(j) => read_announcement(j),
+        Phase::ReloadApply(_) => Access::read_head(),
+        Phase::LoadHelped(j) => Access::read_announcement(j),
+        Phase::LinkHelped(j) => Access::swap_announcement(
+            j,
+            own,
+            marks::add_mark(own.announcement, place),
+        ),
+        Phase::Validate(_) => Access::read_head(),
+        Phase::HandOver(j) => Access::swap_announcement(j, own, words::response_word(own.head)),
+        Phase::ReloadHandOver(j) => Access::read_announcement(j),
+        Phase::Release(j) => Access::swap_announcement(
+            j,
+            own,
+            marks::remove_mark(own.announcement, place),
+        ),
+        Phase::ReloadRelease(j) => Access::read_announcement(j),
     }
 }

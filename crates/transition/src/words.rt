@@ -1,11 +1,11 @@
 // What the words of a step hold, and the words that it writes.
 ghost use Rattle.std.specs.Prelude.{◌≡◌};
-ghost use Rattle.transition.specs.Transition.{state_in, response_in, moved_in, payload_of, named, moved_by, holder_is, cleared_word, applied_word, operation_word, response_word};
+ghost use Rattle.transition.specs.Transition.{state_in, payload_of, named, moved_by, holder_is, cleared_word, applied_word, operation_word, response_word};
 
 use cells::announcement::Announcement;
 use cells::head::Head;
 use cells::marks::NO_MARKS;
-use cells::{announcement, bit, head};
+use cells::{announcement, head};
 use table::Shape;
 
 // The state in a head.
@@ -13,43 +13,7 @@ pub fn state_in(head: Head) -> u16
     ensures { result ≡ state_in head }
 {
     match head {
-        Head::Free { state } => state,
-        Head::Held {
-            state,
-            task: _,
-            response: _,
-            moved: _,
-        } => state,
-    }
-}
-
-// The response in a head, 0 without a holder.
-fn response_in(head: Head) -> u16
-    ensures { result ≡ response_in head }
-{
-    match head {
-        Head::Free { state: _ } => 0,
-        Head::Held {
-            state: _,
-            task: _,
-            response,
-            moved: _,
-        } => response,
-    }
-}
-
-// Whether a head says that the state moved; without a holder it doesn't.
-fn moved_in(head: Head) -> bool
-    ensures { result ≡ moved_in head }
-{
-    match head {
-        Head::Free { state: _ } => false,
-        Head::Held {
-            state: _,
-            task: _,
-            response: _,
-            moved,
-        } => moved,
+        Head::Free { state } | Head::Held { state, .. } => state,
     }
 }
 
@@ -57,15 +21,7 @@ fn moved_in(head: Head) -> bool
 pub fn holder_is(task: u8, head: Head) -> bool
     ensures { result ≡ holder_is task head }
 {
-    match head {
-        Head::Free { state: _ } => false,
-        Head::Held {
-            state: _,
-            task: holder,
-            response: _,
-            moved: _,
-        } => holder == task,
-    }
+    matches!(head, Head::Held { task: holder, .. } if holder == task)
 }
 
 // How many responses a payload can name.
@@ -75,7 +31,7 @@ const NAMED_SIZE: u32 = 65_536;
 pub fn payload_of(response: u16, moved: bool) -> u32
     ensures { result ≡ payload_of response moved }
 {
-    response as u32 + NAMED_SIZE * bit::bit_of(moved) as u32
+    u32::from(response) + NAMED_SIZE * u32::from(moved)
 }
 
 // The operation or the response that a payload names.
@@ -126,12 +82,18 @@ pub fn operation_word(operation: u16) -> u64
     announcement::announcement_word(Announcement::Operation(operation), NO_MARKS)
 }
 
-// The outcome in a head, handed over.
+// The outcome in a head, handed over; without a holder it is 0, and the state didn't move.
 #[tactic(auto, unfolding(crate::specs::Transition::response_word))]
 pub fn response_word(word: u64) -> u64
     ensures { result ≡ response_word word }
 {
-    let held = head::read_head(word);
-    let response = response_in(held);
-    announcement::announcement_word(Announcement::Response(response, moved_in(held)), NO_MARKS)
+    let (response, moved) = match head::read_head(word) {
+        Head::Free { .. } => (0, false),
+        Head::Held {
+            response,
+            moved,
+            ..
+        } => (response, moved),
+    };
+    announcement::announcement_word(Announcement::Response(response, moved), NO_MARKS)
 }
