@@ -146,15 +146,24 @@ fn write_file(room: &mut [u8], rings: u16, shape: Shape)
     table_writer::write_trailer(room, STATE_BYTES * (u32::from(rings) + 1), shape);
 }
 
+// How many rings a list has that is in range.
+#[tactic(auto, using(crate::proofs::Ranges::fits_range))]
+fn count_rings(rings: &[u32]) -> Option<u16>
+    ensures { SomeIff result (rings_fit rings.now ≡ true) (ring_count rings.now) }
+{
+    if rings_fit(rings) {
+        Some((rings.len() / 2) as u16)
+    } else {
+        None
+    }
+}
+
 // Writes the object table of the drive at the room's start, and answers its length in bytes.
 #[tactic(auto, using(laws::proofs::Lists::written_over, crate::proofs::Ranges::fits_range, crate::proofs::WrittenTable::file_long, crate::proofs::WrittenTable::table_no_range, crate::proofs::WrittenTable::table_no_room, crate::proofs::WrittenTable::table_written))]
 pub fn write_table(rings: &[u32], room: &mut [u8]) -> Result<u32, Refusal>
     ensures { (room.new ≡ (table_of rings.now room.old).room) × (result ≡ (table_of rings.now room.old).answer) }
 {
-    if !rings_fit(rings) {
-        return Err(Refusal::Rings);
-    }
-    let count = (rings.len() / 2) as u16;
+    let count = count_rings(rings).ok_or(Refusal::Rings)?;
     let shape = Shape {
         offset: 0,
         states: count + 1,
