@@ -51,7 +51,7 @@ impl Order<'_> {
 }
 
 // Meets the start state and gives every state of the order its turn. The arrays are all 0 before.
-#[tactic(auto, using(crate::proofs::Turns::turns_zero, crate::proofs::Turns::order_past, crate::proofs::Words::keeps_same))]
+#[tactic(auto, using(crate::proofs::Turns::turns_zero, crate::proofs::Turns::order_past))]
 pub(crate) fn meet_all(file: &[u8], shape: Shape, order: &mut [u16], number: &mut [u16]) -> u16
     requires { Kept order.old number.old 0 }
     ensures { Keeps (order_of file.now shape) order.new number.new result }
