@@ -78,7 +78,7 @@ fn longer(line: Option<Line>, byte: u8) -> Option<Line>
 }
 
 // One byte of the input. Byte 10 ends a line, which is served.
-#[tactic(auto, using(crate::proofs::Feeds::yields_as, crate::proofs::Feeds::feed_newline, crate::proofs::Feeds::feed_other))]
+#[tactic(auto, using(crate::proofs::Feeds::yields_as, crate::proofs::Feeds::feed_newline))]
 pub(crate) fn take_in(file: &[u8], session: &mut Session, byte: u8) -> Text
     ensures { (fed : Fed) → Follows fed session.old → Yields session.new result (feed_byte file.now fed byte) }
 {
