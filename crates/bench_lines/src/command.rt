@@ -83,7 +83,7 @@ fn with_two(letter: u8, first: Option<u16>, second: Option<u16>) -> Command
 }
 
 // After a letter and a number: one number more, and nothing else.
-#[tactic(auto, using(crate::proofs::Fields::one_field, crate::proofs::Fields::first_field))]
+#[tactic(auto, using(crate::proofs::Fields::one_field))]
 fn after_number(letter: u8, first: Option<u16>, rest: &[u8]) -> Command
     ensures { result ≡ after_number letter first (fields_of rest.now) }
 {

@@ -13,7 +13,7 @@ use std::rt::Files;
 const MOST_READS: u64 = u64::MAX;
 
 // A part of the input, byte by byte.
-#[tactic(auto, using(crate::proofs::Feeds::follows_as, crate::proofs::Feeds::feed_none, crate::proofs::Feeds::feed_more))]
+#[tactic(auto, using(crate::proofs::Feeds::feed_none))]
 fn take_all<P: Print>(rt: &P, file: &[u8], session: &mut Session, bytes: &[u8])
     ensures { (fed : Fed) → Follows fed session.old → Follows (feed file.now fed bytes.now).fed session.new }
 {
@@ -35,7 +35,7 @@ fn read_part<R: Read, P: Print>(reader: &mut R, rt: &P, file: &[u8], session: &m
 
 // The input to its end, and the number of its reads: the first read that gives no byte is the last. `Err` stands for an
 // input that goes on after all reads.
-#[tactic(auto, using(crate::proofs::Feeds::reached_none, crate::proofs::Feeds::reached_more, crate::proofs::Feeds::most_reads_lem))]
+#[tactic(auto, using(crate::proofs::Feeds::reached_none, crate::proofs::Feeds::most_reads_lem))]
 fn read_all<R: Read, P: Print>(
     reader: &mut R,
     rt: &P,

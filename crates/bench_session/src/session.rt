@@ -16,10 +16,10 @@ const NEWLINE: u8 = 10;
 
 const LONGEST_LINE: usize = 64;
 
-// The bytes of a line.
+// The bytes of a line that isn't too long.
 pub type Line = ArrayVec<u8, LONGEST_LINE>;
 
-// The bench, and the line that is being read, as far as it isn't too long.
+// The bench, and the line that is being read; `None` stands for every line that is too long.
 #[derive(Drop)]
 pub struct Session {
     pub bench: Bench,
@@ -66,7 +66,7 @@ fn end_line(file: &[u8], session: &mut Session) -> Text
     run::serve(file, &mut session.bench, command)
 }
 
-// The line with one byte more.
+// The line with one byte more. One that is too long stays so.
 #[tactic(auto, using(crate::proofs::Held::hold_long))]
 fn longer(line: Option<Line>, byte: u8) -> Option<Line>
     ensures { (bytes : List ℕ) → Holds bytes line → Holds (bytes ++ (byte ∷ [])) result }
@@ -77,7 +77,7 @@ fn longer(line: Option<Line>, byte: u8) -> Option<Line>
 }
 
 // One byte of the input. Byte 10 ends a line, which is served.
-#[tactic(auto, using(crate::proofs::Feeds::yields_as, crate::proofs::Feeds::feed_newline, crate::proofs::Feeds::feed_other))]
+#[tactic(auto, using(crate::proofs::Feeds::yields_as, crate::proofs::Feeds::feed_newline))]
 pub(crate) fn take_in(file: &[u8], session: &mut Session, byte: u8) -> Text
     ensures { (fed : Fed) → Follows fed session.old → Yields session.new result (feed_byte file.now fed byte) }
 {

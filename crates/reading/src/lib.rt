@@ -12,10 +12,7 @@ pub fn read_some<R: Read>(reader: &mut R, room: &mut [u8]) -> usize
     ensures in_bounds { IsPrefixLen result room.new }
     ensures bytes { Consumes (R.remaining reader.old) (R.remaining reader.new) (take result room.new) }
 {
-    match reader.read(room) {
-        Ok(count) => count,
-        Err(_) => 0,
-    }
+    reader.read(room).unwrap_or(0)
 }
 
 // Reads until the room is full or the end has come: how many bytes stand at the start of the room.
