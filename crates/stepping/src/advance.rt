@@ -5,8 +5,8 @@ ghost use Rattle.stepping.specs.Step.{advance_of, answer_of};
 
 use crate::answer::{Progress, Step};
 use records::phase::Phase;
-use records::record::Task;
 use records::record;
+use records::record::Task;
 use transition::access::Next;
 
 // The task after a task, in turn.
