@@ -3,12 +3,12 @@
 #![tactic(auto)]
 
 use std::io;
-use table::Shape;
+use table::Table;
 
 // A 1 or a 0 for each operation.
-fn print_changing<P: Print>(rt: &P, file: &[u8], shape: Shape) -> io::Result<()> {
-    for operation in 0..shape.operations {
-        let changing = u8::from(reach::is_changing(file, shape, operation));
+fn print_changing<P: Print>(rt: &P, table: &Table) -> io::Result<()> {
+    for operation in 0..table.shape.operations {
+        let changing = u8::from(reach::is_changing(table, operation));
         print!(rt; "{changing}")?;
     }
     Ok(())
@@ -19,7 +19,7 @@ fn report<P: Print>(rt: &P, file: &[u8]) -> io::Result<()> {
         Err(cause) => println!(rt; "x {}", u8::from(cause)),
         Ok(shape) => {
             print!(rt; "ok {} {} {} ", shape.states, shape.operations, shape.start)?;
-            print_changing(rt, file, shape)?;
+            print_changing(rt, &Table { file, shape })?;
             println!(rt; "")
         }
     }

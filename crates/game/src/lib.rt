@@ -9,7 +9,7 @@ ghost use Rattle.game.specs.Turns.{is_target, theirs};
 ghost use Rattle.game.specs.Force.{targets_fit, question_fits, turn_of, is_yes, force_of};
 
 use refusal::Refusal;
-use table::Shape;
+use table::{Shape, Table};
 
 const MOST_MOVES: usize = 4;
 
@@ -42,8 +42,8 @@ fn is_yes(answer: Verdict) -> bool
 // The jack console's turn: some operation must lead to a turn of the link that is won.
 #[cycle(turns)]
 #[tactic(auto, using(crate::proofs::Turns::reached, crate::proofs::Turns::turn_none, crate::proofs::Turns::turn_wins, crate::proofs::Turns::turn_loses))]
-fn our_turn(file: &[u8], shape: Shape, targets: &[u8], left: usize, state: u16) -> Verdict
-    ensures { result ≡ turn_of file.now shape targets.now left state }
+fn our_turn(table: &Table, targets: &[u8], left: usize, state: u16) -> Verdict
+    ensures { result ≡ turn_of table.now.file.now table.now.shape targets.now left state }
 {
     if is_target(targets, state) {
         return Verdict::Reached;
@@ -51,9 +51,9 @@ fn our_turn(file: &[u8], shape: Shape, targets: &[u8], left: usize, state: u16) 
     if left == 0 {
         return Verdict::Loses;
     }
-    for operation in 0..shape.operations {
-        let entry = table::read_entry(file, shape, state, operation);
-        if their_turn(file, shape, targets, left - 1, entry.next) {
+    for operation in 0..table.shape.operations {
+        let entry = table.read_entry(state, operation);
+        if their_turn(table, targets, left - 1, entry.next) {
             return Verdict::Wins(operation);
         }
     }
@@ -63,8 +63,8 @@ fn our_turn(file: &[u8], shape: Shape, targets: &[u8], left: usize, state: u16) 
 // The link's turn: every operation must lead to a turn of the jack console that is won.
 #[cycle(turns)]
 #[tactic(auto, using(crate::proofs::Turns::theirs_target, crate::proofs::Turns::theirs_none, crate::proofs::Turns::theirs_lost, crate::proofs::Turns::theirs_won, crate::proofs::Turns::yes_ours))]
-fn their_turn(file: &[u8], shape: Shape, targets: &[u8], left: usize, state: u16) -> bool
-    ensures { result ≡ theirs file.now shape targets.now left state }
+fn their_turn(table: &Table, targets: &[u8], left: usize, state: u16) -> bool
+    ensures { result ≡ theirs table.now.file.now table.now.shape targets.now left state }
 {
     if is_target(targets, state) {
         return true;
@@ -72,9 +72,9 @@ fn their_turn(file: &[u8], shape: Shape, targets: &[u8], left: usize, state: u16
     if left == 0 {
         return false;
     }
-    for operation in 0..shape.operations {
-        let entry = table::read_entry(file, shape, state, operation);
-        if !is_yes(our_turn(file, shape, targets, left - 1, entry.next)) {
+    for operation in 0..table.shape.operations {
+        let entry = table.read_entry(state, operation);
+        if !is_yes(our_turn(table, targets, left - 1, entry.next)) {
             return false;
         }
     }
@@ -109,5 +109,6 @@ pub fn force(file: &[u8], state: usize, targets: &[u8], moves: usize) -> Result<
     if !question_fits(shape, state, targets, moves) {
         return Err(Refusal::Question);
     }
-    Ok(our_turn(file, shape, targets, moves, state as u16))
+    let table = Table { file, shape };
+    Ok(our_turn(&table, targets, moves, state as u16))
 }

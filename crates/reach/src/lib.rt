@@ -10,7 +10,7 @@ ghost use Rattle.table.specs.Entries.{moves};
 ghost use Rattle.reach.specs.Changing.{changing};
 ghost use Rattle.reach.specs.Reached.{reached_of, reached_into};
 
-use table::Shape;
+use table::Table;
 
 mod order;
 
@@ -31,8 +31,8 @@ pub struct Reached {
 // The states of a table that can be reached, in arrays of 256 words that may hold anything before. Answers how many they are;
 // arrays of another length are left as they were, and the answer is 0.
 #[tactic(auto, using(crate::proofs::Words::into_other_order, crate::proofs::Words::into_other_number, crate::proofs::Words::into_both))]
-pub fn reach_into(file: &[u8], shape: Shape, order: &mut [u16], number: &mut [u16]) -> u16
-    ensures { (order.new ≡ (reached_into file.now shape order.old number.old).order) × (number.new ≡ (reached_into file.now shape order.old number.old).number) × (result ≡ (reached_into file.now shape order.old number.old).count) }
+pub fn reach_into(table: &Table, order: &mut [u16], number: &mut [u16]) -> u16
+    ensures { (order.new ≡ (reached_into table.now.file.now table.now.shape order.old number.old).order) × (number.new ≡ (reached_into table.now.file.now table.now.shape order.old number.old).number) × (result ≡ (reached_into table.now.file.now table.now.shape order.old number.old).count) }
 {
     if order.len() != PLACES {
         return 0;
@@ -42,17 +42,17 @@ pub fn reach_into(file: &[u8], shape: Shape, order: &mut [u16], number: &mut [u1
     }
     order.fill(0);
     number.fill(0);
-    order::meet_all(file, shape, order, number)
+    order::meet_all(table, order, number)
 }
 
 // The states of a table that can be reached, by value.
 #[tactic(auto, using(crate::proofs::Words::into_both))]
-pub fn reach(file: &[u8], shape: Shape) -> Reached
-    ensures { result ≡ reached_of file.now shape }
+pub fn reach(table: &Table) -> Reached
+    ensures { result ≡ reached_of table.now.file.now table.now.shape }
 {
     let mut order = [0; 256];
     let mut number = [0; 256];
-    let count = reach_into(file, shape, &mut order, &mut number);
+    let count = reach_into(table, &mut order, &mut number);
     Reached {
         order,
         number,
@@ -62,39 +62,39 @@ pub fn reach(file: &[u8], shape: Shape) -> Reached
 
 // Whether an operation moves some state of the table, one that can be reached or not.
 #[tactic(auto, using(laws::proofs::Chains::all_any))]
-fn moves_some(file: &[u8], shape: Shape, operation: u16) -> bool
-    ensures { result ≡ any_below shape.states (λ state. moves file.now shape state operation) }
+fn moves_some(table: &Table, operation: u16) -> bool
+    ensures { result ≡ any_below table.now.shape.states (λ state. moves table.now.file.now table.now.shape state operation) }
 {
-    (0..shape.states).any(|state| table::moves_state(file, shape, state, operation))
+    (0..table.shape.states).any(|state| table.moves_state(state, operation))
 }
 
 // Whether a number is a state of the table that an operation moves.
-fn moves_known(file: &[u8], shape: Shape, state: u16, operation: u16) -> bool
-    ensures { result ≡ (ltb state shape.states && moves file.now shape state operation) }
+fn moves_known(table: &Table, state: u16, operation: u16) -> bool
+    ensures { result ≡ (ltb state table.now.shape.states && moves table.now.file.now table.now.shape state operation) }
 {
-    state < shape.states && table::moves_state(file, shape, state, operation)
+    state < table.shape.states && table.moves_state(state, operation)
 }
 
 // Whether an operation moves one of the states that were met.
 #[tactic(auto, using(laws::proofs::Chains::all_any))]
-fn moves_met(file: &[u8], shape: Shape, met: &[u16], operation: u16) -> bool
-    ensures { result ≡ any_below (length met.now) (λ place. ltb (get_or met.now place 0) shape.states && moves file.now shape (get_or met.now place 0) operation) }
+fn moves_met(table: &Table, met: &[u16], operation: u16) -> bool
+    ensures { result ≡ any_below (length met.now) (λ place. ltb (get_or met.now place 0) table.now.shape.states && moves table.now.file.now table.now.shape (get_or met.now place 0) operation) }
 {
     met.iter()
-        .any(|state| moves_known(file, shape, *state, operation))
+        .any(|state| moves_known(table, *state, operation))
 }
 
 // Whether an operation moves some state that can be reached; otherwise it is reading. One that moves no state of the table is
 // reading without a order.
 #[tactic(auto, using(crate::proofs::Words::none_kept, crate::proofs::ChangingWords::unmoved_reading))]
-pub fn is_changing(file: &[u8], shape: Shape, operation: u16) -> bool
-    ensures { result ≡ changing file.now shape operation }
+pub fn is_changing(table: &Table, operation: u16) -> bool
+    ensures { result ≡ changing table.now.file.now table.now.shape operation }
 {
-    if !moves_some(file, shape, operation) {
+    if !moves_some(table, operation) {
         return false;
     }
     let mut order = [0; 256];
     let mut number = [0; 256];
-    let count = order::meet_all(file, shape, &mut order, &mut number);
-    moves_met(file, shape, &order[..usize::from(count)], operation)
+    let count = order::meet_all(table, &mut order, &mut number);
+    moves_met(table, &order[..usize::from(count)], operation)
 }

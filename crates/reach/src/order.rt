@@ -3,7 +3,7 @@ ghost use Rattle.reach.specs.Order.{meet, meet_next, order_of};
 ghost use Rattle.reach.specs.Reached.{Keeps, Kept};
 ghost use Rattle.reach.specs.Found.{met, KeptIn, Finds};
 
-use table::Shape;
+use table::Table;
 
 const MOST_STATES: u16 = 256;
 
@@ -39,12 +39,12 @@ impl Order<'_> {
 
     // Meets the next states of a state, operations from 0 up.
     #[tactic(auto, using(crate::proofs::Turns::meet_next_zero))]
-    fn meet_next(&mut self, file: &[u8], shape: Shape, state: u16)
+    fn meet_next(&mut self, table: &Table, state: u16)
         requires { KeptIn self.old }
-        ensures { Finds (meet_next file.now shape state shape.operations (met self.old)) self.old self.new }
+        ensures { Finds (meet_next table.now.file.now table.now.shape state table.now.shape.operations (met self.old)) self.old self.new }
     {
-        for operation in 0..shape.operations {
-            let entry = table::read_entry(file, shape, state, operation);
+        for operation in 0..table.shape.operations {
+            let entry = table.read_entry(state, operation);
             self.meet(entry.next);
         }
     }
@@ -52,20 +52,20 @@ impl Order<'_> {
 
 // Meets the start state and gives every state of the order its turn. The arrays are all 0 before.
 #[tactic(auto, using(crate::proofs::Turns::turns_zero, crate::proofs::Turns::order_past))]
-pub(crate) fn meet_all(file: &[u8], shape: Shape, order: &mut [u16], number: &mut [u16]) -> u16
+pub(crate) fn meet_all(table: &Table, order: &mut [u16], number: &mut [u16]) -> u16
     requires { Kept order.old number.old 0 }
-    ensures { Keeps (order_of file.now shape) order.new number.new result }
+    ensures { Keeps (order_of table.now.file.now table.now.shape) order.new number.new result }
 {
     let mut order = Order {
         states: order,
         number,
         count: 0,
     };
-    order.meet(shape.start);
+    order.meet(table.shape.start);
     let mut place: u16 = 0;
     while place < order.count {
         let state = order.states[usize::from(place)];
-        order.meet_next(file, shape, state);
+        order.meet_next(table, state);
         place += 1;
     }
     order.count

@@ -15,7 +15,7 @@ use records::phase::Phase;
 use records::record;
 use records::record::Task;
 use refusal::Refusal;
-use table::Shape;
+use table::{Shape, Table};
 use transition::{entry, next, plan};
 
 // What the tests that all calls share find.
@@ -58,18 +58,18 @@ pub fn admit_start(file: &[u8], cells: usize, tasks: usize) -> Result<u16, Refus
 }
 
 // The first phase's number: a changing operation is announced, a reading one has one step.
-fn first_phase(file: &[u8], shape: Shape, operation: u16) -> u32
-    ensures { result ≡ cond (changing file.now shape operation) (phase_number Phase.Announce) (phase_number Phase.ReadOnly) }
+fn first_phase(table: &Table, operation: u16) -> u32
+    ensures { result ≡ cond (changing table.now.file.now table.now.shape operation) (phase_number Phase.Announce) (phase_number Phase.ReadOnly) }
 {
-    if reach::is_changing(file, shape, operation) {
+    if reach::is_changing(table, operation) {
         return u32::from(Phase::Announce);
     }
     u32::from(Phase::ReadOnly)
 }
 
 // The record of a task that has begun an operation.
-fn begun_task(file: &[u8], shape: Shape, operation: u16, own: Task) -> Task
-    ensures { result ≡ begun_task file.now shape operation own }
+fn begun_task(table: &Table, operation: u16, own: Task) -> Task
+    ensures { result ≡ begun_task table.now.file.now table.now.shape operation own }
 {
     Task {
         head: 0,
@@ -78,7 +78,7 @@ fn begun_task(file: &[u8], shape: Shape, operation: u16, own: Task) -> Task
         steps: 0,
         operation,
         priority: own.priority,
-        phase: first_phase(file, shape, operation),
+        phase: first_phase(table, operation),
     }
 }
 
@@ -94,6 +94,7 @@ fn begin_in(
     ensures { begin_left own result ≡ begin_in file.now tasks task operation own (Ok admission) }
 {
     let shape = admission.shape;
+    let table = Table { file, shape };
     if task >= tasks {
         return Err(Refusal::Task);
     }
@@ -101,14 +102,14 @@ fn begin_in(
         return Err(Refusal::Operation);
     }
     let chosen = operation as u16;
-    if !table::entries_in_range(file, shape) {
+    if !table.entries_in_range() {
         return Err(Refusal::NextState);
     }
     record::read_record(shape, tasks, admission.ceiling, own)?;
     if own.phase != 0 {
         return Err(Refusal::Pending);
     }
-    Ok(begun_task(file, shape, chosen, own))
+    Ok(begun_task(&table, chosen, own))
 }
 
 // Begins an operation for one task of a row, by its record: the record that it has then.
@@ -130,30 +131,29 @@ pub fn begin_task(
 // access is made.
 #[tactic(auto, using(crate::proofs::Parts::cell_refused, crate::proofs::Parts::entry_refused, crate::proofs::Parts::accepted))]
 fn step_from(
-    file: &[u8],
+    table: &Table,
     cells: &mut [u64],
-    shape: Shape,
     tasks: usize,
     task: usize,
     own: Task,
     phase: Phase,
 ) -> Result<Step, Refusal>
-    requires { (0 < tasks) × (tasks ≤ 8) × (task < tasks) × (own.priority < tasks) × (own.steps < 1000000) × (touched (plan_of file.now shape task own.priority own phase) < length cells.old) × (own.phase ≡ 0 → ⊥) }
-    ensures { step_left cells.new own result ≡ step_from file.now shape cells.old tasks task own (Ok phase) }
+    requires { (0 < tasks) × (tasks ≤ 8) × (task < tasks) × (own.priority < tasks) × (own.steps < 1000000) × (touched (plan_of table.now.file.now table.now.shape task own.priority own phase) < length cells.old) × (own.phase ≡ 0 → ⊥) }
+    ensures { step_left cells.new own result ≡ step_from table.now.file.now table.now.shape cells.old tasks task own (Ok phase) }
 {
     let place = task as u8;
     let first = own.priority as u8;
-    let access = plan::plan(file, shape, place, first, own, phase);
+    let access = plan::plan(table, place, first, own, phase);
     let cell = perform::touched_by(access);
     let word = cells[cell];
-    if !perform::cell_in_form(shape, tasks, cell, word) {
+    if !perform::cell_in_form(table.shape, tasks, cell, word) {
         return Err(Refusal::Cell);
     }
-    if !entry::used_in_range(file, shape, own, word, phase) {
+    if !entry::used_in_range(table, own, word, phase) {
         return Err(Refusal::NextState);
     }
     let found = perform::perform(cells, access);
-    let next = next::next(file, shape, place, first, own, phase, found);
+    let next = next::next(table, place, first, own, phase, found);
     Ok(advance::advance(tasks, own, next))
 }
 
@@ -192,7 +192,7 @@ fn step_known(
     if !record::words_in_form(shape, tasks, own) {
         return Err(Refusal::Record);
     }
-    step_from(file, cells, shape, tasks, task, own, phase)
+    step_from(&Table { file, shape }, cells, tasks, task, own, phase)
 }
 
 // A step for an admitted table.

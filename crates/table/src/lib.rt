@@ -145,42 +145,60 @@ pub fn check_layout(file: &[u8]) -> Result<Shape, Refusal>
     Ok(shape)
 }
 
-// The entry of a state and an operation.
-#[tactic(auto, unfolding(crate::specs::Entries::entry_of))]
-pub fn read_entry(file: &[u8], shape: Shape, state: u16, operation: u16) -> Entry
-    ensures { result ≡ entry_of file.now shape state operation }
-{
-    let row = product(state, shape.operations);
-    let place = shape.offset as usize + ENTRY_BYTES * (row + usize::from(operation));
-    Entry {
-        next: u16::from(byte_at(file, place)),
-        response: u16::from(byte_at(file, place + 1)),
+// A file and its shape.
+#[derive(Clone, Copy)]
+pub struct Table<'a> {
+    pub file: &'a [u8],
+    pub shape: Shape,
+}
+
+impl Table<'_> {
+    // The entry of a state and an operation.
+    #[tactic(auto, unfolding(crate::specs::Entries::entry_of))]
+    pub fn read_entry(&self, state: u16, operation: u16) -> Entry
+        ensures { result ≡ entry_of self.now.file.now self.now.shape state operation }
+    {
+        let row = product(state, self.shape.operations);
+        let place = self.shape.offset as usize + ENTRY_BYTES * (row + usize::from(operation));
+        Entry {
+            next: u16::from(byte_at(self.file, place)),
+            response: u16::from(byte_at(self.file, place + 1)),
+        }
     }
-}
 
-// Whether one entry's next state is one of the table's states: cause 4 does not hold on it.
-#[tactic(auto, unfolding(crate::specs::Entries::entry_in_range))]
-pub fn entry_in_range(file: &[u8], shape: Shape, state: u16, operation: u16) -> bool
-    ensures { result ≡ entry_in_range file.now shape state operation }
-{
-    let entry = read_entry(file, shape, state, operation);
-    entry.next < shape.states
-}
+    // Whether one entry's next state is one of the table's states: cause 4 does not hold on it.
+    #[tactic(auto, unfolding(crate::specs::Entries::entry_in_range))]
+    pub fn entry_in_range(&self, state: u16, operation: u16) -> bool
+        ensures { result ≡ entry_in_range self.now.file.now self.now.shape state operation }
+    {
+        let entry = self.read_entry(state, operation);
+        entry.next < self.shape.states
+    }
 
-// Whether cause 4 holds on none of one operation's entries.
-#[tactic(auto, using(laws::proofs::Chains::all_any), unfolding(crate::specs::Entries::operation_in_range))]
-fn operation_in_range(file: &[u8], shape: Shape, operation: u16) -> bool
-    ensures { result ≡ operation_in_range file.now shape operation }
-{
-    (0..shape.states).all(|state| entry_in_range(file, shape, state, operation))
-}
+    // Whether cause 4 holds on none of one operation's entries.
+    #[tactic(auto, using(laws::proofs::Chains::all_any), unfolding(crate::specs::Entries::operation_in_range))]
+    fn operation_in_range(&self, operation: u16) -> bool
+        ensures { result ≡ operation_in_range self.now.file.now self.now.shape operation }
+    {
+        (0..self.shape.states).all(|state| self.entry_in_range(state, operation))
+    }
 
-// Whether cause 4 holds on no entry.
-#[tactic(auto, using(laws::proofs::Chains::all_any), unfolding(crate::specs::Entries::entries_in_range))]
-pub fn entries_in_range(file: &[u8], shape: Shape) -> bool
-    ensures { result ≡ entries_in_range file.now shape }
-{
-    (0..shape.operations).all(|operation| operation_in_range(file, shape, operation))
+    // Whether cause 4 holds on no entry.
+    #[tactic(auto, using(laws::proofs::Chains::all_any), unfolding(crate::specs::Entries::entries_in_range))]
+    pub fn entries_in_range(&self) -> bool
+        ensures { result ≡ entries_in_range self.now.file.now self.now.shape }
+    {
+        (0..self.shape.operations).all(|operation| self.operation_in_range(operation))
+    }
+
+    // Whether an operation leads from a state to another one.
+    #[tactic(auto, unfolding(crate::specs::Entries::moves))]
+    pub fn moves_state(&self, state: u16, operation: u16) -> bool
+        ensures { result ≡ moves self.now.file.now self.now.shape state operation }
+    {
+        let entry = self.read_entry(state, operation);
+        entry.next != state
+    }
 }
 
 // The first of causes 1 to 4 that holds, 4 on all entries, or the file's shape.
@@ -189,17 +207,9 @@ pub fn check(file: &[u8]) -> Result<Shape, Refusal>
     ensures { result ≡ check_of file.now }
 {
     let shape = check_layout(file)?;
-    if !entries_in_range(file, shape) {
+    let table = Table { file, shape };
+    if !table.entries_in_range() {
         return Err(Refusal::NextState);
     }
     Ok(shape)
-}
-
-// Whether an operation leads from a state to another one.
-#[tactic(auto, unfolding(crate::specs::Entries::moves))]
-pub fn moves_state(file: &[u8], shape: Shape, state: u16, operation: u16) -> bool
-    ensures { result ≡ moves file.now shape state operation }
-{
-    let entry = read_entry(file, shape, state, operation);
-    entry.next != state
 }

@@ -12,7 +12,7 @@ use cells::head::Head;
 use cells::{announcement, head, marks};
 use records::phase::Phase;
 use records::record::Task;
-use table::Shape;
+use table::Table;
 
 // What an access gave back, as a phase asks for it.
 impl Found {
@@ -249,12 +249,12 @@ fn after_validate(own: Task, helped: u8, marked: bool) -> Next
 }
 
 // A reading operation ends with the outcome of the entry of the state that was read.
-fn read_end(file: &[u8], shape: Shape, own: Task, word: u64) -> Next
-    ensures { result ≡ Next.End (entry_of file.now shape (state_in (head_of word)) own.operation).response (moves file.now shape (state_in (head_of word)) own.operation) }
+fn read_end(table: &Table, own: Task, word: u64) -> Next
+    ensures { result ≡ Next.End (entry_of table.now.file.now table.now.shape (state_in (head_of word)) own.operation).response (moves table.now.file.now table.now.shape (state_in (head_of word)) own.operation) }
 {
     let state = words::state_in(head::read_head(word));
-    let entry = table::read_entry(file, shape, state, own.operation);
-    let moved = table::moves_state(file, shape, state, own.operation);
+    let entry = table.read_entry(state, own.operation);
+    let moved = table.moves_state(state, own.operation);
     Next::End {
         response: entry.response,
         moved,
@@ -274,21 +274,20 @@ fn kept_end(payload: u32) -> Next
 // What the step of a task leads to. The priority is the number of the task that it helps first.
 #[tactic(auto, unfolding(crate::specs::Transition::next_of))]
 pub fn next(
-    file: &[u8],
-    shape: Shape,
+    table: &Table,
     task: u8,
     priority: u8,
     own: Task,
     phase: Phase,
     found: Found,
 ) -> Next
-    ensures { result ≡ next_of file.now shape task priority own phase found }
+    ensures { result ≡ next_of table.now.file.now table.now.shape task priority own phase found }
 {
     let word = found.word();
     let made = found.made();
     match phase {
         Phase::Idle => Next::bare(Phase::Idle),
-        Phase::ReadOnly => read_end(file, shape, own, word),
+        Phase::ReadOnly => read_end(table, own, word),
         Phase::Announce => Next::bare(Phase::Poll),
         Phase::Poll => after_poll(word),
         Phase::LoadHead => Next::with_head(Phase::LinkHead, word),

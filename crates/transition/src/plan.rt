@@ -8,7 +8,7 @@ use crate::words;
 use cells::marks;
 use records::phase::Phase;
 use records::record::Task;
-use table::Shape;
+use table::Table;
 
 // Cell 0 is the head.
 const HEAD: usize = 0;
@@ -72,20 +72,20 @@ impl Access {
 
 // The swap that applies the payload's operation for a task.
 #[tactic(auto, unfolding(crate::specs::Transition::plan_of))]
-fn applied(file: &[u8], shape: Shape, own: Task, task: u8) -> Access
-    ensures { result ≡ plan_of file.now shape 0 0 own (Phase.Apply task) }
+fn applied(table: &Table, own: Task, task: u8) -> Access
+    ensures { result ≡ plan_of table.now.file.now table.now.shape 0 0 own (Phase.Apply task) }
 {
     let operation = words::named_by(own.payload);
     Access::swap_head(
         own,
-        words::applied_word(file, shape, own.head, task, operation),
+        words::applied_word(table, own.head, task, operation),
     )
 }
 
 // The access of a task's next step. The priority is the number of the task that it helps first.
 #[tactic(auto, unfolding(crate::specs::Transition::plan_of))]
-pub fn plan(file: &[u8], shape: Shape, task: u8, priority: u8, own: Task, phase: Phase) -> Access
-    ensures { result ≡ plan_of file.now shape task priority own phase }
+pub fn plan(table: &Table, task: u8, priority: u8, own: Task, phase: Phase) -> Access
+    ensures { result ≡ plan_of table.now.file.now table.now.shape task priority own phase }
 {
     let place = usize::from(task);
     match phase {
@@ -104,7 +104,7 @@ pub fn plan(file: &[u8], shape: Shape, task: u8, priority: u8, own: Task, phase:
         Phase::Retract => Access::write_announcement(task, 0),
         Phase::ClearHead => Access::swap_head(own, words::cleared_word(own.head)),
         Phase::ReloadClear => Access::read_head(),
-        Phase::Apply(j) => applied(file, shape, own, j),
+        Phase::Apply(j) => applied(table, own, j),
         Phase::ReloadApply(_) => Access::read_head(),
         Phase::LoadHelped(j) => Access::read_announcement(j),
         Phase::LinkHelped(j) => Access::swap_announcement(

@@ -6,7 +6,7 @@ use cells::announcement::Announcement;
 use cells::head::Head;
 use cells::marks::NO_MARKS;
 use cells::{announcement, head};
-use table::Shape;
+use table::Table;
 
 // The state in a head.
 pub fn state_in(head: Head) -> u16
@@ -59,12 +59,12 @@ pub fn cleared_word(word: u64) -> u64
 
 // The head after an operation of a task, by the table's entry.
 #[tactic(auto, unfolding(crate::specs::Transition::applied_word))]
-pub fn applied_word(file: &[u8], shape: Shape, word: u64, task: u8, operation: u16) -> u64
-    ensures { result ≡ applied_word file.now shape word task operation }
+pub fn applied_word(table: &Table, word: u64, task: u8, operation: u16) -> u64
+    ensures { result ≡ applied_word table.now.file.now table.now.shape word task operation }
 {
     let state = state_in(head::read_head(word));
-    let entry = table::read_entry(file, shape, state, operation);
-    let moved = table::moves_state(file, shape, state, operation);
+    let entry = table.read_entry(state, operation);
+    let moved = table.moves_state(state, operation);
     let applied = Head::Held {
         state: entry.next,
         task,

@@ -11,8 +11,8 @@ decreases-their_turn l = l.left
 
 -- No operation passed leads to a turn that is won.
 abbrev pub invariant-our_turn-loop-operation : goal.invariant-our_turn-loop-operation
-invariant-our_turn-loop-operation l = (k : ℕ) → k < l.operation → to_theirs l.file l.shape l.targets (l.left - 1) l.state k ≡ false
+invariant-our_turn-loop-operation l = (k : ℕ) → k < l.operation → to_theirs l.table.file.now l.table.shape l.targets (l.left - 1) l.state k ≡ false
 
 -- Every operation passed leads to a turn that is won.
 abbrev pub invariant-their_turn-loop-operation : goal.invariant-their_turn-loop-operation
-invariant-their_turn-loop-operation l = (k : ℕ) → k < l.operation → to_ours l.file l.shape l.targets (l.left - 1) l.state k ≡ true
+invariant-their_turn-loop-operation l = (k : ℕ) → k < l.operation → to_ours l.table.file.now l.table.shape l.targets (l.left - 1) l.state k ≡ true

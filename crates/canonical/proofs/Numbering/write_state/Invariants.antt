@@ -7,4 +7,4 @@ use Rattle.canonical.proofs.Numbering.write_state.Given as goal
 
 abbrev pub invariant-loop-operation : goal.invariant-loop-operation
 invariant-loop-operation l =
-    l.room ≡ sets l.initial.room l.at (state_bytes l.operation (renumbered_entry l.self.file.now l.self.shape (order_of l.self.file.now l.self.shape) l.place))
+    l.room ≡ sets l.initial.room l.at (state_bytes l.operation (renumbered_entry l.self.table.file.now l.self.table.shape (order_of l.self.table.file.now l.self.table.shape) l.place))

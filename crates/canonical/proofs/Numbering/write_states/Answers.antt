@@ -28,7 +28,7 @@ unfolding joined
 loop-place-preserved c =
     let s = c.args.self.now in
     let place = c.loop-place.place in
-    let entry = renumbered_entry s.file.now s.shape (order_of s.file.now s.shape) in
-    let at : 2 * c.from-step.result * c.from.result ≡ 0 + length (entries_of place s.shape.operations entry) =
-    rw (c.from-step.ensures, c.from.ensures) (omega (arith, entries_length place s.shape.operations entry)) in
+    let entry = renumbered_entry s.table.file.now s.table.shape (order_of s.table.file.now s.table.shape) in
+    let at : 2 * c.from-step.result * c.from.result ≡ 0 + length (entries_of place s.table.shape.operations entry) =
+    rw (c.from-step.ensures, c.from.ensures) (omega (arith, entries_length place s.table.shape.operations entry)) in
     rw add-one (sets_then _ _ _ _ c.loop-place.invariant at c.write_state.ensures)

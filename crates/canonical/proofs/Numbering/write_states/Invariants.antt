@@ -7,4 +7,4 @@ use Rattle.canonical.proofs.Numbering.write_states.Given as goal
 
 abbrev pub invariant-loop-place : goal.invariant-loop-place
 invariant-loop-place l =
-    l.room ≡ sets l.initial.room 0 (entries_of l.place l.self.shape.operations (renumbered_entry l.self.file.now l.self.shape (order_of l.self.file.now l.self.shape)))
+    l.room ≡ sets l.initial.room 0 (entries_of l.place l.self.table.shape.operations (renumbered_entry l.self.table.file.now l.self.table.shape (order_of l.self.table.file.now l.self.table.shape)))
