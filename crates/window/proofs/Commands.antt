@@ -1,19 +1,18 @@
 -- A window call by its tests: one case for each command, with the facts that the tests found.
 use Rattle.std.specs.Prelude.{Result, Ok, Err, ⊤}
-use mathlib.Core.Path.{◌≡◌, refl, sym, ap, ◌∙◌}
+use mathlib.Core.Path.{◌≡◌}
 use mathlib.Core.Bool.{true, false}
 use mathlib.Core.List.{List}
 use mathlib.Core.Logic.{◌≢◌}
 use Prim.Native.Nat.{ℕ, ◌*◌, ◌<◌, ◌≤◌}
 use native.Mathlib.Omega.{arith}
-use borrow.Author.Tests.{ltb-true, ltb-false, eqb-true, eqb-false, lt-ltb, le-ltb, eq-eqb, ne_eqb}
+use borrow.Author.Tests.{ltb-true, ltb-false, eqb-true, eqb-false, le-ltb, eq-eqb, ne_eqb}
 use lib.Dec.{eqb, ltb}
 use lib.ListN.{length}
 use Rattle.laws.proofs.Choice.{choice_by}
-use Rattle.laws.proofs.Clash.{clash}
 use Rattle.refusal.specs.declared.Refusal.TheVariants as cause
 use Rattle.window.specs.Window.{byte_at, status_at, place_of}
-use Rattle.window.specs.Written.{refused_in, acknowledged_in}
+use Rattle.window.specs.Written.{acknowledged_in}
 use Rattle.window.specs.Serve.{Asked, Settled, Begins, Steps, refused_command, commanded}
 use Rattle.refusal.specs.declared.Refusal.{Refusal}
 
@@ -36,9 +35,6 @@ module _ (windows : List ℕ) (n t : ℕ) where
 
   pub place_past : length windows ≡ 8 * n → n ≤ t → Err cause.Task ≡ place_of windows n t
   place_past e h = simp (eq-eqb (length windows) (8 * n) e, le-ltb t n h)
-
-  pub place_inside : length windows ≡ 8 * n → t < n → (Ok tt) ≡ place_of windows n t
-  place_inside e h = simp (eq-eqb (length windows) (8 * n) e, lt-ltb t n h)
 
 -- ---- The commands
 

@@ -1,6 +1,6 @@
 -- A task's eight bytes, lent out of the windows: what is written there as in the window of a task 0 is written in the window of the task.
 use Rattle.std.specs.Prelude.{Result, Ok, Err, ⊤}
-use mathlib.Core.Path.{◌≡◌, refl, sym, ap, ◌∙◌}
+use mathlib.Core.Path.{◌≡◌, sym, ap, ◌∙◌}
 use mathlib.Core.Bool.{Bool}
 use mathlib.Core.List.{List, ◌++◌}
 use Prim.Native.Nat.{ℕ, ◌+◌, ◌*◌, ◌<◌, ◌≤◌}
@@ -10,7 +10,6 @@ use Rattle.std.proofs.lemmas.List.{length-set, length-take-le, set-append_left, 
 use Rattle.refusal.specs.declared.Refusal.{Refusal}
 use Rattle.stepping.specs.declared.answer.Progress.{Progress}
 use Rattle.stepping.specs.declared.answer.Progress.TheVariants as progress
-use Rattle.window.specs.declared.Status.{Status}
 use Rattle.window.specs.Window.{byte_at, with_byte}
 use Rattle.window.specs.Written.{taken, refused_in, begun_in, ended_in, acknowledged_in, after_begin, after_step}
 

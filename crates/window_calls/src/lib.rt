@@ -11,9 +11,8 @@ ghost use Rattle.window.specs.Line.{line_of};
 
 use records::record::Task;
 use refusal::Refusal;
-use stepping::answer::Progress;
 use window::LineLevel;
-use write::Window;
+use write::{BYTES, COMMAND, INTERRUPT, MASK, OPERATION, Window};
 
 mod status;
 mod write;
@@ -22,7 +21,7 @@ mod write;
 fn find_window(windows: &[u8], tasks: usize, task: usize) -> Result<(), Refusal>
     ensures { (result ≡ place_of windows.now tasks task) × (result ≡ Ok tt → 8 * task + 7 < length windows.now) }
 {
-    if windows.len() % write::BYTES != 0 || windows.len() / write::BYTES != tasks {
+    if windows.len() % BYTES != 0 || windows.len() / BYTES != tasks {
         return Err(Refusal::Window);
     }
     if tasks <= task {
@@ -31,11 +30,16 @@ fn find_window(windows: &[u8], tasks: usize, task: usize) -> Result<(), Refusal>
     Ok(())
 }
 
-// A begin by a window, of the operation in its byte 0.
-fn begin_by_window(file: &[u8], row: &mut [Task], task: usize, window: &mut Window) -> Result<(), Refusal>
+// A begin by a window, of the operation that stands in it.
+fn begin_by_window(
+    file: &[u8],
+    row: &mut [Task],
+    task: usize,
+    window: &mut Window,
+) -> Result<(), Refusal>
     ensures { let out = begin_of file.now row.old task (byte_at window.old 0 0) in (row.new ≡ out.row) × (window.new ≡ after_begin window.old 0 out.answer) × (result ≡ begun_answer out.answer) }
 {
-    let operation = usize::from(window[write::OPERATION]);
+    let operation = usize::from(window[OPERATION]);
     match drive::begin(file, row, task, operation) {
         Ok(()) => {
             write::begun(window);
@@ -56,11 +60,12 @@ fn step_by_window(
     ensures { let out = step_of file.now cells.old row.old task in (cells.new ≡ out.cells) × (row.new ≡ out.row) × (window.new ≡ after_step window.old 0 out.answer) × (result ≡ stepped_answer out.answer) }
 {
     match drive::step(file, cells, row, task) {
-        Ok(Progress::Running) => write::take(window),
-        Ok(Progress::Ended { response, moved, .. }) => write::ended(window, response, moved),
-        Err(cause) => return write::refuse(window, cause),
+        Ok(progress) => {
+            write::stepped(window, progress);
+            Ok(())
+        }
+        Err(cause) => write::refuse(window, cause),
     }
-    Ok(())
 }
 
 // Takes the command in a task's window, makes the begin or step that it asks for, and leaves in the window what the
@@ -76,11 +81,12 @@ pub fn serve_window(
     ensures { record { cells = cells.new; row = row.new; windows = windows.new; answer = result } ≡ window_of file.now cells.old row.old windows.old task }
 {
     find_window(windows, row.len(), task)?;
-    let (_, from_own) = windows.split_at_mut(write::BYTES * task);
-    let Some(window) = from_own.first_chunk_mut() else {
+    // The eight bytes are there, as the tests have told.
+    let (_, rest) = windows.split_at_mut(BYTES * task);
+    let Some(window) = rest.first_chunk_mut() else {
         return Err(Refusal::Task);
     };
-    match window[write::COMMAND] {
+    match window[COMMAND] {
         0 => Ok(()),
         1 if write::status_in(window).done => write::refuse(window, Refusal::Unacknowledged),
         1 => begin_by_window(file, row, task, window),
@@ -99,7 +105,11 @@ pub fn line(windows: &[u8], tasks: usize, task: usize) -> Result<LineLevel, Refu
     ensures { result ≡ line_of windows.now tasks task }
 {
     find_window(windows, tasks, task)?;
-    let waits = status::on(windows[write::BYTES * task + write::INTERRUPT]);
-    let masked = status::on(windows[write::BYTES * task + write::MASK]);
-    Ok(if waits && !masked { LineLevel::Up } else { LineLevel::Down })
+    let waits = status::on(windows[BYTES * task + INTERRUPT]);
+    let masked = status::on(windows[BYTES * task + MASK]);
+    Ok(if waits && !masked {
+        LineLevel::Up
+    } else {
+        LineLevel::Down
+    })
 }

@@ -1,5 +1,5 @@
 // The status byte of a window, bit by bit, and its interrupt byte.
-ghost use Rattle.std.specs.Prelude.{◌≡◌, cond, ◌<◌, ◌≤◌};
+ghost use Rattle.std.specs.Prelude.{◌≡◌, ◌<◌};
 ghost use Rattle.window.specs.Window.{on, status_of, status_byte, interrupt_byte};
 
 use window::Status;
@@ -24,26 +24,21 @@ pub(crate) fn read_status(byte: u8) -> Status
     }
 }
 
-// A bit of a byte by its weight.
-fn weighed(yes: bool, weight: u8) -> u8
-    ensures { (result ≡ cond yes weight 0) × (result ≤ weight) }
-{
-    u8::from(yes) * weight
-}
-
 // The byte of a status.
 pub(crate) fn status_byte(status: Status) -> u8
     requires { status.unnamed < 16 }
     ensures { result ≡ status_byte status }
 {
-    let low = weighed(status.busy, 1) + weighed(status.done, 2);
-    let high = weighed(status.refused, 4) + weighed(status.moved, 8);
-    low + high + 16 * status.unnamed
+    u8::from(status.busy)
+        + 2 * u8::from(status.done)
+        + 4 * u8::from(status.refused)
+        + 8 * u8::from(status.moved)
+        + 16 * status.unnamed
 }
 
 // The interrupt byte with another bit 0.
 pub(crate) fn interrupt_byte(waits: bool, byte: u8) -> u8
     ensures { result ≡ interrupt_byte waits byte }
 {
-    weighed(waits, 1) + 2 * (byte / 2)
+    u8::from(waits) + 2 * (byte / 2)
 }

@@ -1,10 +1,11 @@
-// What a command leaves in the eight bytes of its task, which are the windows of one task, of number 0.
-ghost use Rattle.std.specs.Prelude.{◌≡◌, ◌<◌, Err};
+// What a command leaves in the eight bytes of its task. Clauses see these as the windows of a task 0 alone.
+ghost use Rattle.std.specs.Prelude.{◌≡◌, ◌<◌, Ok, Err};
 ghost use Rattle.window.specs.Window.{status_at};
-ghost use Rattle.window.specs.Written.{marked, taken, refused_in, begun_in, ended_in, acknowledged_in};
+ghost use Rattle.window.specs.Written.{marked, taken, refused_in, begun_in, ended_in, acknowledged_in, after_step};
 
 use crate::status;
 use refusal::Refusal;
+use stepping::answer::Progress;
 use window::Status;
 
 // The bytes of a window that are read or written.
@@ -22,9 +23,10 @@ pub(crate) const INTERRUPT: usize = 5;
 
 pub(crate) const MASK: usize = 6;
 
-// The bytes of a window.
+// How many bytes a window has.
 pub(crate) const BYTES: usize = 8;
 
+// The eight bytes of a task.
 pub(crate) type Window = [u8; BYTES];
 
 // The status that stands in a window.
@@ -54,8 +56,11 @@ fn mark(window: &mut Window, status: Status)
 pub(crate) fn refuse(window: &mut Window, cause: Refusal) -> Result<(), Refusal>
     ensures { (window.new ≡ refused_in window.old 0 cause) × (result ≡ Err cause) }
 {
-    let old = status_in(window);
-    mark(window, Status { refused: true, ..old });
+    let later = Status {
+        refused: true,
+        ..status_in(window)
+    };
+    mark(window, later);
     window[REFUSAL] = refusal::number(cause);
     window[INTERRUPT] = status::interrupt_byte(true, window[INTERRUPT]);
     Err(cause)
@@ -65,40 +70,51 @@ pub(crate) fn refuse(window: &mut Window, cause: Refusal) -> Result<(), Refusal>
 pub(crate) fn begun(window: &mut Window)
     ensures { window.new ≡ begun_in window.old 0 }
 {
-    let old = status_in(window);
-    mark(window, Status { busy: true, ..old });
+    let later = Status {
+        busy: true,
+        ..status_in(window)
+    };
+    mark(window, later);
 }
 
 // An operation that has ended.
-pub(crate) fn ended(window: &mut Window, response: u16, moved: bool)
+fn ended(window: &mut Window, response: u16, moved: bool)
     ensures { window.new ≡ ended_in window.old 0 response moved }
 {
-    let old = status_in(window);
-    mark(
-        window,
-        Status {
-            busy: false,
-            done: true,
-            moved,
-            ..old
-        },
-    );
+    let later = Status {
+        busy: false,
+        done: true,
+        moved,
+        ..status_in(window)
+    };
+    mark(window, later);
     window[RESPONSE] = (response % 256) as u8;
     window[INTERRUPT] = status::interrupt_byte(true, window[INTERRUPT]);
+}
+
+// An accepted step: the operation runs on, or has ended.
+pub(crate) fn stepped(window: &mut Window, progress: Progress)
+    ensures { window.new ≡ after_step window.old 0 (Ok progress) }
+{
+    match progress {
+        Progress::Running => take(window),
+        Progress::Ended {
+            response,
+            moved,
+            ..
+        } => ended(window, response, moved),
+    }
 }
 
 // An acknowledge.
 pub(crate) fn acknowledged(window: &mut Window)
     ensures { window.new ≡ acknowledged_in window.old 0 }
 {
-    let old = status_in(window);
-    mark(
-        window,
-        Status {
-            done: false,
-            refused: false,
-            ..old
-        },
-    );
+    let later = Status {
+        done: false,
+        refused: false,
+        ..status_in(window)
+    };
+    mark(window, later);
     window[INTERRUPT] = status::interrupt_byte(false, window[INTERRUPT]);
 }
