@@ -107,9 +107,9 @@ pub fn line(windows: &[u8], tasks: usize, task: usize) -> Result<LineLevel, Refu
     find_window(windows, tasks, task)?;
     let waits = status::on(windows[BYTES * task + INTERRUPT]);
     let masked = status::on(windows[BYTES * task + MASK]);
-    Ok(if waits && !masked {
-        LineLevel::Up
+    if waits && !masked {
+        Ok(LineLevel::Up)
     } else {
-        LineLevel::Down
-    })
+        Ok(LineLevel::Down)
+    }
 }
