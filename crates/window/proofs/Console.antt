@@ -15,7 +15,7 @@ use Rattle.refusal.specs.declared.Refusal.{Refusal}
 use Rattle.refusal.specs.declared.Refusal.TheVariants as cause
 use Rattle.refusal.specs.Number.{number_of}
 use Rattle.machine.specs.Outcome.{Outcome, no_outcome}
-use Rattle.machine.specs.Calls.{Call, Begin, Step, Begun, Running, Ended, Refused, Event}
+use Rattle.machine.specs.Calls.{Call, Begin, Step, Begun, Running, Ended, Event}
 use Rattle.machine.specs.History.{Nothing, heard, pending}
 use Rattle.records.specs.declared.record.Task.{Task}
 use Rattle.stepping.specs.Call.{begin_said, step_said}

@@ -12,7 +12,7 @@ use Rattle.refusal.specs.declared.Refusal.{Refusal}
 use Rattle.refusal.specs.declared.Refusal.TheVariants as cause
 use Rattle.refusal.specs.Number.{number_of, Said, refused_by}
 use Rattle.refusal.proofs.Numbers.{numbers_apart, values_same}
-use Rattle.machine.specs.Calls.{Begin, Step, Refused}
+use Rattle.machine.specs.Calls.{Begin, Step}
 use Rattle.records.specs.declared.record.Task.{Task}
 use Rattle.stepping.specs.Call.{begin_said, step_said, task_at, begin_of, step_of}
 use Rattle.window.specs.Window.{byte_at, status_at, interrupt_at, mask_at}
@@ -24,7 +24,6 @@ use Rattle.window.proofs.Commands as found
 use Rattle.window.proofs.Commands.{Placed, placed, place_unfit, place_past, Command, command}
 use Rattle.window.proofs.Causes.{Own, begin_own, step_own}
 use Rattle.window.proofs.Cases.{Case, unfit, past, nothing, unknown, acknowledged, unacknowledged, begun, begin_refused, running, ended, step_refused, cases}
-use Rattle.stepping.specs.declared.answer.Progress.TheVariants as progress
 use Rattle.window.specs.declared.LineLevel.TheVariants as line
 
 -- ---- The numbers

@@ -1,4 +1,5 @@
 pub mod Commands
+pub mod Lent
 pub mod Served
 pub mod Bytes
 pub mod Causes

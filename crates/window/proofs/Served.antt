@@ -1,72 +1,61 @@
--- A window call by its parts: what is settled by the windows alone, and what a begin or a step leaves, make up the whole.
-use Rattle.std.specs.Prelude.{Result, ⊤}
-use mathlib.Core.Path.{◌≡◌, refl, sym, subst, ◌∙◌}
-use mathlib.Core.Bool.{Bool, not}
-use mathlib.Core.List.{List}
-use mathlib.Core.Logic.{◌≢◌}
-use Prim.Native.Nat.{ℕ, ◌+◌, ◌*◌, ◌<◌}
+-- A window call by its tests: what is left where a task has no window, and what each command leaves in the eight bytes that are lent.
+use Rattle.std.specs.Prelude.{Result, Ok, Err, ⊤}
+use mathlib.Core.Path.{◌≡◌, refl, sym, ap, ◌∙◌}
+use mathlib.Core.Bool.{Bool, true, false, cond}
+use mathlib.Core.List.{List, ◌++◌}
+use Prim.Native.Nat.{ℕ, ◌<◌}
 use native.Mathlib.Omega.{arith}
-use borrow.Author.Tests.{eq-eqb, ne_eqb}
-use lib.Dec.{T, eqb}
+use borrow.Author.Tests.{ne_eqb, lt-ltb}
 use lib.ListN.{length}
+use Rattle.refusal.specs.declared.Refusal.{Refusal}
+use Rattle.refusal.specs.declared.Refusal.TheVariants as cause
 use Rattle.records.specs.declared.record.Task.{Task}
 use Rattle.stepping.specs.Call.{begin_of, step_of}
-use Rattle.window.specs.Written.{after_begin, after_step}
-use Rattle.window.specs.Serve.{Asked, Settled, Begins, Steps, asked_in, asked_of, WindowOutcome, begun_answer, stepped_answer, made, window_of}
-use Rattle.window.specs.Work.{work_of, settled_answer, settled_windows, called_of}
-use Rattle.window.proofs.Commands.{Placed, inside, past, unfit, placed}
-use Rattle.refusal.specs.declared.Refusal.{Refusal}
-
--- Two numbers that a test finds apart.
-pub tested_apart : (m n : ℕ) → T (not (eqb m n)) → m ≢ n
-tested_apart m n h e = subst (λ (b : Bool). T (not b)) (eq-eqb m n e) h
-
--- A task whose window asks for a call has its eight bytes.
-pub called_within : (windows : List ℕ) (n t : ℕ) {call : ℕ} → call ≡ (work_of (asked_of windows n t)).call → call ≢ 0 → 8 * t + 7 < length windows
-unfolding asked_of
-called_within windows n t e h = by (placed windows n t) (λ z. h (e ∙ z))
-  where
-    by : {p : (Result ⊤ Refusal)} → Placed windows n t p → (work_of (asked_in windows t p)).call ≢ 0 → 8 * t + 7 < length windows
-    by (inside long below) h = omega (arith, long, below)
-    by (past long above) h = absurd (h refl)
-    by (unfit short) h = absurd (h refl)
+use Rattle.window.specs.Window.{byte_at, status_of, status_at, place_of}
+use Rattle.window.specs.Written.{refused_in, acknowledged_in, after_begin, after_step}
+use Rattle.window.specs.Serve.{Asked, Begins, asked_in, asked_of, refused_command, commanded, WindowOutcome, begun_answer, stepped_answer, made, window_of}
+use Rattle.window.proofs.Lent.{Lent, read, lent_refused, lent_acknowledged, lent_begin, lent_step}
 
 module _ (file cells : List ℕ) (row : List Task) (windows : List ℕ) (t : ℕ) where
   -- What is left and answered is the outcome of the call.
-  abbrev Left : List ℕ → List Task → List ℕ → Result ⊤ Refusal → WindowOutcome
-  Left cells' row' windows' r = record { cells = cells'; row = row'; windows = windows'; answer = r }
+  abbrev Leaves : List ℕ → List Task → List ℕ → Result ⊤ Refusal → Type 0
+  Leaves cells' row' windows' answer = ◌≡◌ {A = WindowOutcome} (record { cells = cells'; row = row'; windows = windows'; answer = answer }) (window_of file cells row windows t)
 
-  module _ (call o : ℕ) where
-    -- By what the window asks for.
-    abbrev IsAsked : Type 0
-    IsAsked = (call ≡ (work_of (asked_of windows (length row) t)).call) × (o ≡ (work_of (asked_of windows (length row) t)).operation)
+  -- A task without a window.
+  pub turned_away : {c : Refusal} → Err c ≡ place_of windows (length row) t → Leaves cells row windows (Err c)
+  unfolding window_of asked_of
+  turned_away found = ap (λ p. made file cells row windows t (asked_in windows t p)) found
 
-    pub settled_said : IsAsked → call ≡ 0 → (left : List ℕ) (r : Result ⊤ Refusal)
-        → (left ≡ settled_windows windows (asked_of windows (length row) t)) × (r ≡ settled_answer (asked_of windows (length row) t)) → Left cells row left r ≡ window_of file cells row windows t
-    unfolding window_of
-    settled_said (known, _) none left r (el, er) = by (asked_of windows (length row) t) (sym known ∙ none) el er
-      where
-        by : (z : Asked) → (work_of z).call ≡ 0 → left ≡ settled_windows windows z → r ≡ settled_answer z → Left cells row left r ≡ made file cells row windows t z
-        by (Settled answer windows') e el er = rw (el, er) refl
-        by (Begins o) e el er = absurd (omega arith)
-        by Steps e el er = absurd (omega arith)
+  -- A task with a window, by its command.
+  module _ (found : (Ok tt) ≡ place_of windows (length row) t) {before own others : List ℕ} (h : Lent windows t before own others) where
+    served_as : (k : ℕ) {a : Asked} → byte_at own 0 1 ≡ k → commanded windows t k ≡ a → made file cells row windows t a ≡ window_of file cells row windows t
+    unfolding window_of asked_of
+    served_as k e asked =
+        ap (made file cells row windows t) (sym asked ∙ ap (commanded windows t) (sym e ∙ read h 1 (omega arith)))
+        ∙ ap (λ p. made file cells row windows t (asked_in windows t p)) found
 
-    pub called_said : IsAsked → call ≢ 0 → (out : WindowOutcome) → out ≡ called_of file cells row windows t call o → out ≡ window_of file cells row windows t
-    unfolding window_of
-    called_said (known, operation) some out e = e ∙ rw (known, operation) (by (asked_of windows (length row) t) (λ z. some (known ∙ z)))
-      where
-        by : (z : Asked) → (work_of z).call ≢ 0 → called_of file cells row windows t (work_of z).call (work_of z).operation ≡ made file cells row windows t z
-        by (Settled answer left) h = absurd (h refl)
-        by (Begins o) h = refl
-        by Steps h = refl
+    pub served_nothing : byte_at own 0 1 ≡ 0 → Leaves cells row (before ++ (own ++ others)) (Ok tt)
+    served_nothing e = rw h.parts (served_as 0 e refl)
 
-    -- By the number of the call.
-    pub begun_said : call ≡ 1 → (row' : List Task) (windows' : List ℕ) (r : Result ⊤ Refusal)
-        → (row' ≡ (begin_of file row t o).row) × (windows' ≡ after_begin windows t (begin_of file row t o).answer) × (r ≡ begun_answer (begin_of file row t o).answer)
-        → Left cells row' windows' r ≡ called_of file cells row windows t call o
-    begun_said one row' windows' r (ey, ew, er) = rw (ey, ew, er, one) refl
+    pub served_acknowledged : byte_at own 0 1 ≡ 3 → Leaves cells row (before ++ (acknowledged_in own 0 ++ others)) (Ok tt)
+    served_acknowledged e = rw (lent_acknowledged h).parts (served_as 3 e refl)
 
-    pub stepped_said : call ≢ 1 → (cells' : List ℕ) (row' : List Task) (windows' : List ℕ) (r : Result ⊤ Refusal)
-        → (cells' ≡ (step_of file cells row t).cells) × (row' ≡ (step_of file cells row t).row) × (windows' ≡ after_step windows t (step_of file cells row t).answer) × (r ≡ stepped_answer (step_of file cells row t).answer)
-        → Left cells' row' windows' r ≡ called_of file cells row windows t call o
-    stepped_said other cells' row' windows' r (ec, ey, ew, er) = rw (ec, ey, ew, er, ne_eqb call 1 other) refl
+    -- Whether done stands decides over a begin.
+    by_done : {d : Bool} → (status_at own 0).done ≡ d → commanded windows t 1 ≡ cond d (refused_command windows t cause.Unacknowledged) (Begins (byte_at windows t 0))
+    by_done e = ap (λ d. cond d (refused_command windows t cause.Unacknowledged) (Begins (byte_at windows t 0))) (ap (λ b. (status_of b).done) (sym (read h 2 (omega arith))) ∙ e)
+
+    pub served_unacknowledged : byte_at own 0 1 ≡ 1 → (status_at own 0).done ≡ true → Leaves cells row (before ++ (refused_in own 0 cause.Unacknowledged ++ others)) (Err cause.Unacknowledged)
+    served_unacknowledged e d = rw (lent_refused h cause.Unacknowledged).parts (served_as 1 e (by_done d))
+
+    pub served_begin : byte_at own 0 1 ≡ 1 → (status_at own 0).done ≡ false → let out = begin_of file row t (byte_at own 0 0) in Leaves cells out.row (before ++ (after_begin own 0 out.answer ++ others)) (begun_answer out.answer)
+    served_begin e d =
+        rw ((lent_begin h (begin_of file row t (byte_at own 0 0)).answer).parts, read h 0 (omega arith)) (served_as 1 e (by_done d))
+
+    pub served_step : byte_at own 0 1 ≡ 2 → let out = step_of file cells row t in Leaves out.cells out.row (before ++ (after_step own 0 out.answer ++ others)) (stepped_answer out.answer)
+    served_step e = rw (lent_step h (step_of file cells row t).answer).parts (served_as 2 e refl)
+
+    unknown : {k : ℕ} → 3 < k → commanded windows t k ≡ refused_command windows t cause.Window
+    unknown {k} few = simp (ne_eqb k 0 (λ e. omega (arith, e, few)), lt-ltb 3 k few)
+
+    pub served_unknown : 3 < byte_at own 0 1 → Leaves cells row (before ++ (refused_in own 0 cause.Window ++ others)) (Err cause.Window)
+    served_unknown few = rw (lent_refused h cause.Window).parts (served_as (byte_at own 0 1) refl (unknown few))

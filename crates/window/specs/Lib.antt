@@ -1,7 +1,6 @@
 pub mod Window
 pub mod Written
 pub mod Serve
-pub mod Work
 pub mod Line
 pub mod Events
 pub mod Console

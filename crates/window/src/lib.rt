@@ -9,13 +9,6 @@ pub enum LineLevel {
     Down,
 }
 
-// The call of the library that a window asks for: 0 none, 1 a begin of the operation, 2 a step.
-#[derive(Clone, Copy)]
-pub struct Work {
-    pub call: usize,
-    pub operation: usize,
-}
-
 // The named bits, and the number that the unnamed ones make.
 #[derive(Clone, Copy)]
 pub struct Status {

@@ -4,29 +4,24 @@
 
 ghost use Rattle.std.specs.Prelude.{◌≡◌, ◌+◌, ◌*◌, ◌<◌, length, Ok};
 ghost use Rattle.stepping.specs.Call.{begin_of, step_of};
-ghost use Rattle.window.specs.Window.{byte_at, status_at, place_of};
+ghost use Rattle.window.specs.Window.{byte_at, place_of};
 ghost use Rattle.window.specs.Written.{after_begin, after_step};
-ghost use Rattle.window.specs.Serve.{commanded, asked_of, window_of, begun_answer, stepped_answer};
-ghost use Rattle.window.specs.Work.{work_of, settled_answer, settled_windows, called_of};
-ghost use Rattle.window.specs.Line.{line_in, line_of};
+ghost use Rattle.window.specs.Serve.{window_of, begun_answer, stepped_answer};
+ghost use Rattle.window.specs.Line.{line_of};
 
 use records::record::Task;
 use refusal::Refusal;
-use stepping::answer::Progress;
-use window::{LineLevel, Work};
+use window::LineLevel;
+use write::{BYTES, COMMAND, INTERRUPT, MASK, OPERATION, Window};
 
 mod status;
 mod write;
 
 // The tests of every call on windows: 18 unless there are eight bytes for each task, then 7.
-#[tactic(auto, using(laws::proofs::Clash::never, window::proofs::Commands::place_unfit, window::proofs::Commands::place_past, window::proofs::Commands::place_inside))]
 fn find_window(windows: &[u8], tasks: usize, task: usize) -> Result<(), Refusal>
     ensures { (result ≡ place_of windows.now tasks task) × (result ≡ Ok tt → 8 * task + 7 < length windows.now) }
 {
-    if windows.len() % write::BYTES != 0 {
-        return Err(Refusal::Window);
-    }
-    if windows.len() / write::BYTES != tasks {
+    if windows.len() % BYTES != 0 || windows.len() / BYTES != tasks {
         return Err(Refusal::Window);
     }
     if tasks <= task {
@@ -35,137 +30,23 @@ fn find_window(windows: &[u8], tasks: usize, task: usize) -> Result<(), Refusal>
     Ok(())
 }
 
-// No call of the library.
-fn no_work() -> Work
-    ensures { result ≡ record { call = 0; operation = 0 } }
-{
-    Work {
-        call: 0,
-        operation: 0,
-    }
-}
-
-// Whether done stands in a task's window, not acknowledged.
-fn done_stands(windows: &[u8], task: usize) -> bool
-    requires { 8 * task + 7 < length windows.now }
-    ensures { result ≡ (status_at windows.now task).done }
-{
-    let status = status::read_status(write::byte_at(windows, task, write::STATUS));
-    status.done
-}
-
-// The call that the command of a task's window asks for.
-#[tactic(auto, using(window::proofs::Commands::work_steps, window::proofs::Commands::work_begins, window::proofs::Commands::work_unacknowledged, window::proofs::Commands::work_none))]
-fn work_of_command(windows: &[u8], task: usize) -> Work
-    requires { 8 * task + 7 < length windows.now }
-    ensures { result ≡ work_of (commanded windows.now task (byte_at windows.now task 1)) }
-{
-    let command = write::byte_at(windows, task, write::COMMAND);
-    if command == 2 {
-        return Work {
-            call: 2,
-            operation: 0,
-        };
-    }
-    if command != 1 {
-        return no_work();
-    }
-    if done_stands(windows, task) {
-        return no_work();
-    }
-    Work {
-        call: 1,
-        operation: write::byte_at(windows, task, write::OPERATION) as usize,
-    }
-}
-
-// The call that a window call makes.
-#[tactic(auto, using(window::proofs::Commands::asked_at))]
-fn work_of_call(windows: &[u8], tasks: usize, task: usize) -> Work
-    ensures { result ≡ work_of (asked_of windows.now tasks task) }
-{
-    let place = find_window(windows, tasks, task);
-    match place {
-        Err(_) => no_work(),
-        Ok(()) => work_of_command(windows, task),
-    }
-}
-
-// A command that is settled without the library: nothing, acknowledge, or one that is refused.
-#[tactic(auto, using(window::proofs::Commands::settled_acknowledged, window::proofs::Commands::settled_unacknowledged, window::proofs::Commands::settled_unknown, window::proofs::Commands::settled_left))]
-fn settle_command(windows: &mut [u8], task: usize) -> Result<(), Refusal>
-    requires { 8 * task + 7 < length windows.old }
-    ensures { (windows.new ≡ settled_windows windows.old (commanded windows.old task (byte_at windows.old task 1))) × (result ≡ settled_answer (commanded windows.old task (byte_at windows.old task 1))) }
-{
-    let command = write::byte_at(windows, task, write::COMMAND);
-    if command == 3 {
-        write::write_acknowledged(windows, task);
-        return Ok(());
-    }
-    if 3 < command {
-        write::write_refused(windows, task, Refusal::Window);
-        return Err(Refusal::Window);
-    }
-    if command != 1 {
-        return Ok(());
-    }
-    if done_stands(windows, task) {
-        write::write_refused(windows, task, Refusal::Unacknowledged);
-        return Err(Refusal::Unacknowledged);
-    }
-    Ok(())
-}
-
-// A window call that is settled without the library.
-#[tactic(auto, using(window::proofs::Commands::asked_at))]
-fn settle(windows: &mut [u8], tasks: usize, task: usize) -> Result<(), Refusal>
-    ensures { (windows.new ≡ settled_windows windows.old (asked_of windows.old tasks task)) × (result ≡ settled_answer (asked_of windows.old tasks task)) }
-{
-    let place = find_window(windows, tasks, task);
-    match place {
-        Err(cause) => Err(cause),
-        Ok(()) => settle_command(windows, task),
-    }
-}
-
-// What is left in the window after a begin, and the answer.
-fn after_begin(windows: &mut [u8], task: usize, answer: Result<(), Refusal>) -> Result<(), Refusal>
-    requires { 8 * task + 7 < length windows.old }
-    ensures { (windows.new ≡ after_begin windows.old task answer) × (result ≡ begun_answer answer) }
-{
-    write::write_begin(windows, task, answer);
-    match answer {
-        Ok(()) => Ok(()),
-        Err(cause) => Err(cause),
-    }
-}
-
-// What is left in the window after a step, and the answer.
-fn after_step(windows: &mut [u8], task: usize, answer: Result<Progress, Refusal>) -> Result<(), Refusal>
-    requires { 8 * task + 7 < length windows.old }
-    ensures { (windows.new ≡ after_step windows.old task answer) × (result ≡ stepped_answer answer) }
-{
-    write::write_step(windows, task, answer);
-    match answer {
-        Ok(Progress::Running) => Ok(()),
-        Ok(Progress::Ended { .. }) => Ok(()),
-        Err(cause) => Err(cause),
-    }
-}
-
-// A begin by a window.
+// A begin by a window, of the operation that stands in it.
 fn begin_by_window(
     file: &[u8],
     row: &mut [Task],
-    windows: &mut [u8],
     task: usize,
-    operation: usize,
+    window: &mut Window,
 ) -> Result<(), Refusal>
-    requires { 8 * task + 7 < length windows.old }
-    ensures { (row.new ≡ (begin_of file.now row.old task operation).row) × (windows.new ≡ after_begin windows.old task (begin_of file.now row.old task operation).answer) × (result ≡ begun_answer (begin_of file.now row.old task operation).answer) }
+    ensures { let out = begin_of file.now row.old task (byte_at window.old 0 0) in (row.new ≡ out.row) × (window.new ≡ after_begin window.old 0 out.answer) × (result ≡ begun_answer out.answer) }
 {
-    let answer = drive::begin(file, row, task, operation);
-    after_begin(windows, task, answer)
+    let operation = usize::from(window[OPERATION]);
+    match drive::begin(file, row, task, operation) {
+        Ok(()) => {
+            write::begun(window);
+            Ok(())
+        }
+        Err(cause) => write::refuse(window, cause),
+    }
 }
 
 // A step by a window.
@@ -173,57 +54,23 @@ fn step_by_window(
     file: &[u8],
     cells: &mut [u64],
     row: &mut [Task],
-    windows: &mut [u8],
     task: usize,
+    window: &mut Window,
 ) -> Result<(), Refusal>
-    requires { 8 * task + 7 < length windows.old }
-    ensures { (cells.new ≡ (step_of file.now cells.old row.old task).cells) × (row.new ≡ (step_of file.now cells.old row.old task).row) × (windows.new ≡ after_step windows.old task (step_of file.now cells.old row.old task).answer) × (result ≡ stepped_answer (step_of file.now cells.old row.old task).answer) }
+    ensures { let out = step_of file.now cells.old row.old task in (cells.new ≡ out.cells) × (row.new ≡ out.row) × (window.new ≡ after_step window.old 0 out.answer) × (result ≡ stepped_answer out.answer) }
 {
-    let answer = drive::step(file, cells, row, task);
-    after_step(windows, task, answer)
-}
-
-// The call of the library that a window asks for: 1 a begin of the operation, any other number a step.
-fn call_by_window(
-    file: &[u8],
-    cells: &mut [u64],
-    row: &mut [Task],
-    windows: &mut [u8],
-    task: usize,
-    call: usize,
-    operation: usize,
-) -> Result<(), Refusal>
-    requires { 8 * task + 7 < length windows.old }
-    ensures { record { cells = cells.new; row = row.new; windows = windows.new; answer = result } ≡ called_of file.now cells.old row.old windows.old task call operation }
-{
-    if call == 1 {
-        return begin_by_window(file, row, windows, task, operation);
+    match drive::step(file, cells, row, task) {
+        Ok(progress) => {
+            write::stepped(window, progress);
+            Ok(())
+        }
+        Err(cause) => write::refuse(window, cause),
     }
-    step_by_window(file, cells, row, windows, task)
-}
-
-// Serves a window by what it asks for: 0 no call of the library, else the call.
-fn serve_asked(
-    file: &[u8],
-    cells: &mut [u64],
-    row: &mut [Task],
-    windows: &mut [u8],
-    task: usize,
-    call: usize,
-    operation: usize,
-) -> Result<(), Refusal>
-    requires { (call ≡ (work_of (asked_of windows.old (length row.old) task)).call) × (operation ≡ (work_of (asked_of windows.old (length row.old) task)).operation) }
-    ensures { record { cells = cells.new; row = row.new; windows = windows.new; answer = result } ≡ window_of file.now cells.old row.old windows.old task }
-{
-    if call == 0 {
-        let tasks = row.len();
-        return settle(windows, tasks, task);
-    }
-    call_by_window(file, cells, row, windows, task, call, operation)
 }
 
 // Takes the command in a task's window, makes the begin or step that it asks for, and leaves in the window what the
 // console reads.
+#[tactic(auto, using(window::proofs::Lent::lent, window::proofs::Served::turned_away, window::proofs::Served::served_nothing, window::proofs::Served::served_unacknowledged, window::proofs::Served::served_begin, window::proofs::Served::served_step, window::proofs::Served::served_acknowledged, window::proofs::Served::served_unknown))]
 pub fn serve_window(
     file: &[u8],
     cells: &mut [u64],
@@ -233,33 +80,36 @@ pub fn serve_window(
 ) -> Result<(), Refusal>
     ensures { record { cells = cells.new; row = row.new; windows = windows.new; answer = result } ≡ window_of file.now cells.old row.old windows.old task }
 {
-    let tasks = row.len();
-    let asked = work_of_call(windows, tasks, task);
-    serve_asked(file, cells, row, windows, task, asked.call, asked.operation)
+    find_window(windows, row.len(), task)?;
+    // The eight bytes are there, as the tests have told.
+    let (_, rest) = windows.split_at_mut(BYTES * task);
+    let Some(window) = rest.first_chunk_mut() else {
+        return Err(Refusal::Task);
+    };
+    match window[COMMAND] {
+        0 => Ok(()),
+        1 if write::status_in(window).done => write::refuse(window, Refusal::Unacknowledged),
+        1 => begin_by_window(file, row, task, window),
+        2 => step_by_window(file, cells, row, task, window),
+        3 => {
+            write::acknowledged(window);
+            Ok(())
+        }
+        _ => write::refuse(window, Refusal::Window),
+    }
 }
 
-// The line of a task that has a window.
-fn line_in(windows: &[u8], task: usize) -> Result<LineLevel, Refusal>
-    requires { 8 * task + 7 < length windows.now }
-    ensures { result ≡ line_in windows.now task (Ok tt) }
-{
-    if write::byte_at(windows, task, write::MASK) % 2 == 1 {
-        return Ok(LineLevel::Down);
-    }
-    if write::byte_at(windows, task, write::INTERRUPT) % 2 == 1 {
-        return Ok(LineLevel::Up);
-    }
-    Ok(LineLevel::Down)
-}
-
-// The interrupt line of a task.
-#[tactic(auto, using(window::proofs::Commands::line_at))]
+// The interrupt line of a task: up while an interrupt waits and isn't masked.
+#[tactic(auto, unfolding(window::specs::Line::line_of))]
 pub fn line(windows: &[u8], tasks: usize, task: usize) -> Result<LineLevel, Refusal>
     ensures { result ≡ line_of windows.now tasks task }
 {
-    let place = find_window(windows, tasks, task);
-    match place {
-        Err(cause) => Err(cause),
-        Ok(()) => line_in(windows, task),
+    find_window(windows, tasks, task)?;
+    let waits = status::on(windows[BYTES * task + INTERRUPT]);
+    let masked = status::on(windows[BYTES * task + MASK]);
+    if waits && !masked {
+        Ok(LineLevel::Up)
+    } else {
+        Ok(LineLevel::Down)
     }
 }

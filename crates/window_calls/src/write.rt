@@ -1,18 +1,19 @@
-// What a command leaves in the window of its task, byte by byte.
-ghost use Rattle.std.specs.Prelude.{◌≡◌, ◌+◌, ◌*◌, ◌<◌, length};
-ghost use Rattle.window.specs.Window.{byte_at, with_byte};
-ghost use Rattle.window.specs.Written.{taken, refused_in, begun_in, ended_in, acknowledged_in, after_begin, after_step};
+// What a command leaves in the eight bytes of its task. Clauses see these as the windows of a task 0 alone.
+ghost use Rattle.std.specs.Prelude.{◌≡◌, ◌<◌, Ok, Err};
+ghost use Rattle.window.specs.Window.{status_at};
+ghost use Rattle.window.specs.Written.{marked, taken, refused_in, begun_in, ended_in, acknowledged_in, after_step};
 
 use crate::status;
 use refusal::Refusal;
 use stepping::answer::Progress;
+use window::Status;
 
 // The bytes of a window that are read or written.
 pub(crate) const OPERATION: usize = 0;
 
 pub(crate) const COMMAND: usize = 1;
 
-pub(crate) const STATUS: usize = 2;
+const STATUS: usize = 2;
 
 const RESPONSE: usize = 3;
 
@@ -22,104 +23,98 @@ pub(crate) const INTERRUPT: usize = 5;
 
 pub(crate) const MASK: usize = 6;
 
-// The bytes of a window.
+// How many bytes a window has.
 pub(crate) const BYTES: usize = 8;
 
-// A byte of a task's window.
-pub(crate) fn byte_at(windows: &[u8], task: usize, byte: usize) -> u8
-    requires { 8 * task + byte < length windows.now }
-    ensures { result ≡ byte_at windows.now task byte }
-{
-    windows[BYTES * task + byte]
-}
+// The eight bytes of a task.
+pub(crate) type Window = [u8; BYTES];
 
-// Writes a byte of a task's window.
-fn put(windows: &mut [u8], task: usize, byte: usize, value: u8)
-    requires { 8 * task + byte < length windows.old }
-    ensures { windows.new ≡ with_byte windows.old task byte value }
+// The status that stands in a window.
+pub(crate) fn status_in(window: &Window) -> Status
+    ensures { (result ≡ status_at window.now 0) × (result.unnamed < 16) }
 {
-    windows[BYTES * task + byte] = value;
+    status::read_status(window[STATUS])
 }
 
 // Takes the command: it is served once.
-fn take(windows: &mut [u8], task: usize)
-    requires { 8 * task + 7 < length windows.old }
-    ensures { windows.new ≡ taken windows.old task }
+pub(crate) fn take(window: &mut Window)
+    ensures { window.new ≡ taken window.old 0 }
 {
-    put(windows, task, COMMAND, 0);
+    window[COMMAND] = 0;
 }
 
-// A refused command.
-pub(crate) fn write_refused(windows: &mut [u8], task: usize, cause: Refusal)
-    requires { 8 * task + 7 < length windows.old }
-    ensures { windows.new ≡ refused_in windows.old task cause }
+// Takes the command, and writes the status that it leaves.
+fn mark(window: &mut Window, status: Status)
+    requires { status.unnamed < 16 }
+    ensures { window.new ≡ marked window.old 0 status }
 {
-    let marked = status::refused_byte(byte_at(windows, task, STATUS));
-    let raised = status::interrupt_byte(true, byte_at(windows, task, INTERRUPT));
-    take(windows, task);
-    put(windows, task, STATUS, marked);
-    put(windows, task, REFUSAL, u8::from(cause));
-    put(windows, task, INTERRUPT, raised);
+    take(window);
+    window[STATUS] = status::status_byte(status);
+}
+
+// A refused command, and its answer.
+pub(crate) fn refuse(window: &mut Window, cause: Refusal) -> Result<(), Refusal>
+    ensures { (window.new ≡ refused_in window.old 0 cause) × (result ≡ Err cause) }
+{
+    let later = Status {
+        refused: true,
+        ..status_in(window)
+    };
+    mark(window, later);
+    window[REFUSAL] = u8::from(cause);
+    window[INTERRUPT] = status::interrupt_byte(true, window[INTERRUPT]);
+    Err(cause)
 }
 
 // An accepted begin.
-fn write_begun(windows: &mut [u8], task: usize)
-    requires { 8 * task + 7 < length windows.old }
-    ensures { windows.new ≡ begun_in windows.old task }
+pub(crate) fn begun(window: &mut Window)
+    ensures { window.new ≡ begun_in window.old 0 }
 {
-    let marked = status::begun_byte(byte_at(windows, task, STATUS));
-    take(windows, task);
-    put(windows, task, STATUS, marked);
+    let later = Status {
+        busy: true,
+        ..status_in(window)
+    };
+    mark(window, later);
 }
 
 // An operation that has ended.
-fn write_ended(windows: &mut [u8], task: usize, response: u16, moved: bool)
-    requires { 8 * task + 7 < length windows.old }
-    ensures { windows.new ≡ ended_in windows.old task response moved }
+fn ended(window: &mut Window, response: u16, moved: bool)
+    ensures { window.new ≡ ended_in window.old 0 response moved }
 {
-    let marked = status::ended_byte(byte_at(windows, task, STATUS), moved);
-    let waiting = status::interrupt_byte(true, byte_at(windows, task, INTERRUPT));
-    take(windows, task);
-    put(windows, task, STATUS, marked);
-    put(windows, task, RESPONSE, (response % 256) as u8);
-    put(windows, task, INTERRUPT, waiting);
+    let later = Status {
+        busy: false,
+        done: true,
+        moved,
+        ..status_in(window)
+    };
+    mark(window, later);
+    window[RESPONSE] = (response % 256) as u8;
+    window[INTERRUPT] = status::interrupt_byte(true, window[INTERRUPT]);
+}
+
+// An accepted step: the operation runs on, or has ended.
+pub(crate) fn stepped(window: &mut Window, progress: Progress)
+    ensures { window.new ≡ after_step window.old 0 (Ok progress) }
+{
+    match progress {
+        Progress::Running => take(window),
+        Progress::Ended {
+            response,
+            moved,
+            ..
+        } => ended(window, response, moved),
+    }
 }
 
 // An acknowledge.
-pub(crate) fn write_acknowledged(windows: &mut [u8], task: usize)
-    requires { 8 * task + 7 < length windows.old }
-    ensures { windows.new ≡ acknowledged_in windows.old task }
+pub(crate) fn acknowledged(window: &mut Window)
+    ensures { window.new ≡ acknowledged_in window.old 0 }
 {
-    let marked = status::acknowledged_byte(byte_at(windows, task, STATUS));
-    let lowered = status::interrupt_byte(false, byte_at(windows, task, INTERRUPT));
-    take(windows, task);
-    put(windows, task, STATUS, marked);
-    put(windows, task, INTERRUPT, lowered);
-}
-
-// A begin, by its answer.
-pub(crate) fn write_begin(windows: &mut [u8], task: usize, answer: Result<(), Refusal>)
-    requires { 8 * task + 7 < length windows.old }
-    ensures { windows.new ≡ after_begin windows.old task answer }
-{
-    match answer {
-        Ok(()) => write_begun(windows, task),
-        Err(cause) => write_refused(windows, task, cause),
-    }
-}
-
-// A step, by its answer.
-pub(crate) fn write_step(windows: &mut [u8], task: usize, answer: Result<Progress, Refusal>)
-    requires { 8 * task + 7 < length windows.old }
-    ensures { windows.new ≡ after_step windows.old task answer }
-{
-    match answer {
-        Ok(Progress::Running) => take(windows, task),
-        Ok(Progress::Ended {
-            response,
-            moved,
-            steps: _,
-        }) => write_ended(windows, task, response, moved),
-        Err(cause) => write_refused(windows, task, cause),
-    }
+    let later = Status {
+        done: false,
+        refused: false,
+        ..status_in(window)
+    };
+    mark(window, later);
+    window[INTERRUPT] = status::interrupt_byte(false, window[INTERRUPT]);
 }
