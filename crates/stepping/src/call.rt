@@ -127,36 +127,6 @@ pub fn begin_task(
     begin_in(file, admission, tasks, task, operation, own)
 }
 
-// A step for a pending record in form: its access is planned, the touched cell and the used entry are tested, and the
-// access is made.
-#[tactic(auto, using(crate::proofs::Parts::cell_refused, crate::proofs::Parts::entry_refused, crate::proofs::Parts::accepted))]
-fn step_from(
-    table: &Table,
-    cells: &mut [u64],
-    tasks: usize,
-    task: usize,
-    own: Task,
-    phase: Phase,
-) -> Result<Step, Refusal>
-    requires { (0 < tasks) × (tasks ≤ 8) × (task < tasks) × (own.priority < tasks) × (own.steps < 1000000) × (touched (plan_of table.now.file.now table.now.shape task own.priority own phase) < length cells.old) × (own.phase ≡ 0 → ⊥) }
-    ensures { step_left cells.new own result ≡ step_from table.now.file.now table.now.shape cells.old tasks task own (Ok phase) }
-{
-    let place = task as u8;
-    let first = own.priority as u8;
-    let access = plan::plan(table, place, first, own, phase);
-    let cell = perform::touched_by(access);
-    let word = cells[cell];
-    if !perform::cell_in_form(table.shape, tasks, cell, word) {
-        return Err(Refusal::Cell);
-    }
-    if !entry::used_in_range(table, own, word, phase) {
-        return Err(Refusal::NextState);
-    }
-    let found = perform::perform(cells, access);
-    let next = next::next(table, place, first, own, phase, found);
-    Ok(advance::advance(tasks, own, next))
-}
-
 // Why a step of an idle task is refused: it has no operation pending, or its record is out of form.
 fn idle_cause(tasks: usize, own: Task) -> Refusal
     ensures { result ≡ cond (idle_in_form tasks own) Refusal.Idle Refusal.Record }
@@ -167,32 +137,61 @@ fn idle_cause(tasks: usize, own: Task) -> Refusal
     Refusal::Record
 }
 
-// A step for a record of a known phase: its form is tested by its parts, which the compiler takes in here; as one function
-// they would be a call.
-#[tactic(auto, using(crate::proofs::Parts::idle_refused, crate::proofs::Parts::form_refused, crate::proofs::Parts::in_form_lem, crate::proofs::Ready::ready), unfolding(records::specs::Record::pending_in_form))]
-fn step_known(
-    file: &[u8],
-    cells: &mut [u64],
-    admission: Admission,
+// A task of a row that is admitted.
+#[derive(Clone, Copy)]
+struct Place<'a> {
+    table: Table<'a>,
+    ceiling: u32,
     tasks: usize,
     task: usize,
-    own: Task,
-    phase: Phase,
-) -> Result<Step, Refusal>
-    requires { (0 < tasks) × (tasks ≤ 8) × (admission.ceiling ≤ greatest_ceiling) × (task < tasks) × (length cells.old ≡ tasks + 1) × (phase_of own.phase ≡ Ok phase) }
-    ensures { step_left cells.new own result ≡ step_from file.now admission.shape cells.old tasks task own (read_record admission.shape tasks admission.ceiling own) }
-{
-    let shape = admission.shape;
-    if own.phase == 0 {
-        return Err(idle_cause(tasks, own));
+    ghost low: { ceiling ≤ greatest_ceiling },
+    ghost few: { tasks ≤ 8 },
+    ghost within: { task < tasks },
+}
+
+impl Place<'_> {
+    // A step for a pending record in form: its access is planned, the touched cell and the used entry are tested, and the
+    // access is made.
+    #[tactic(auto, using(crate::proofs::Parts::cell_refused, crate::proofs::Parts::entry_refused, crate::proofs::Parts::accepted))]
+    fn step_from(&self, cells: &mut [u64], own: Task, phase: Phase) -> Result<Step, Refusal>
+        requires { (own.priority < self.now.tasks) × (own.steps < 1000000) × (touched (plan_of self.now.table.file.now self.now.table.shape self.now.task own.priority own phase) < length cells.old) × (own.phase ≡ 0 → ⊥) }
+        ensures { step_left cells.new own result ≡ step_from self.now.table.file.now self.now.table.shape cells.old self.now.tasks self.now.task own (Ok phase) }
+    {
+        let task = self.task as u8;
+        let first = own.priority as u8;
+        let access = plan::plan(&self.table, task, first, own, phase);
+        let cell = perform::touched_by(access);
+        let word = cells[cell];
+        if !perform::cell_in_form(self.table.shape, self.tasks, cell, word) {
+            return Err(Refusal::Cell);
+        }
+        if !entry::used_in_range(&self.table, own, word, phase) {
+            return Err(Refusal::NextState);
+        }
+        let found = perform::perform(cells, access);
+        let next = next::next(&self.table, task, first, own, phase, found);
+        Ok(advance::advance(self.tasks, own, next))
     }
-    if !record::numbers_in_form(shape, tasks, admission.ceiling, own) {
-        return Err(Refusal::Record);
+
+    // A step for a record of a known phase: its form is tested by its parts, which the compiler takes in here; as one
+    // function they would be a call.
+    #[tactic(auto, using(crate::proofs::Parts::idle_refused, crate::proofs::Parts::form_refused, crate::proofs::Parts::in_form_lem, crate::proofs::Ready::ready), unfolding(records::specs::Record::pending_in_form))]
+    fn step_known(&self, cells: &mut [u64], own: Task, phase: Phase) -> Result<Step, Refusal>
+        requires { (length cells.old ≡ self.now.tasks + 1) × (phase_of own.phase ≡ Ok phase) }
+        ensures { step_left cells.new own result ≡ step_from self.now.table.file.now self.now.table.shape cells.old self.now.tasks self.now.task own (read_record self.now.table.shape self.now.tasks self.now.ceiling own) }
+    {
+        let shape = self.table.shape;
+        if own.phase == 0 {
+            return Err(idle_cause(self.tasks, own));
+        }
+        if !record::numbers_in_form(shape, self.tasks, self.ceiling, own) {
+            return Err(Refusal::Record);
+        }
+        if !record::words_in_form(shape, self.tasks, own) {
+            return Err(Refusal::Record);
+        }
+        self.step_from(cells, own, phase)
     }
-    if !record::words_in_form(shape, tasks, own) {
-        return Err(Refusal::Record);
-    }
-    step_from(&Table { file, shape }, cells, tasks, task, own, phase)
 }
 
 // A step for an admitted table.
@@ -205,7 +204,7 @@ fn step_in(
     task: usize,
     own: Task,
 ) -> Result<Step, Refusal>
-    requires { (0 < tasks) × (tasks ≤ 8) × (admission.ceiling ≤ greatest_ceiling) }
+    requires { (tasks ≤ 8) × (admission.ceiling ≤ greatest_ceiling) }
     ensures { step_left cells.new own result ≡ step_in file.now cells.old tasks task own (Ok admission) }
 {
     if cells.len() != tasks + 1 {
@@ -215,7 +214,16 @@ fn step_in(
         return Err(Refusal::Task);
     }
     let phase = Phase::try_from(own.phase)?;
-    step_known(file, cells, admission, tasks, task, own, phase)
+    let place = Place {
+        table: Table {
+            file,
+            shape: admission.shape,
+        },
+        ceiling: admission.ceiling,
+        tasks,
+        task,
+    };
+    place.step_known(cells, own, phase)
 }
 
 // Makes one step for one task of a row, by its record; a refused call leaves the cells as they were.
