@@ -3,7 +3,6 @@
 #![tactic(auto)]
 
 pub mod announcement;
-pub mod bit;
 pub mod ceiling;
 pub mod count;
 pub mod form;

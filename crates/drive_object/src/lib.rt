@@ -13,7 +13,7 @@ ghost use Rattle.canonical.specs.Canonical.{canonical_written};
 ghost use Rattle.game.specs.Force.{force_of};
 ghost use Rattle.drive_object.specs.Word.{word_of, ended_flags, refused_word, check_word, start_word, begin_word, step_word, window_word, line_word, ceiling_word, owner_word, written_word, force_word};
 
-use cells::{bit, ceiling};
+use cells::ceiling;
 use game::Verdict;
 use records::record::Task;
 use refusal::Refusal;
@@ -33,7 +33,7 @@ fn word(cause: u8, flags: u8, low: u16, high: u32) -> u64
 fn ended_flags(moved: bool) -> u8
     ensures { result ≡ ended_flags moved }
 {
-    1 + 2 * bit::bit_of(moved)
+    1 + 2 * u8::from(moved)
 }
 
 // The word of a refusal.

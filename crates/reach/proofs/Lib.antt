@@ -1,3 +1,4 @@
+pub mod AtMost
 pub mod Places
 pub mod Meeting
 pub mod Search

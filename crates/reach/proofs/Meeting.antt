@@ -1,22 +1,16 @@
 -- A state is met: what the list is then, and that it keeps its states apart.
 use mathlib.Core.Path.{◌≡◌, sym, ap, subst, ◌∙◌}
-use mathlib.Core.Bool.{true, false}
-use lib.Dec.{eqb}
 use mathlib.Core.List.{List, [], ◌∷◌, ◌++◌}
 use Prim.Native.Nat.{ℕ, ◌+◌, ◌<◌, ◌≤◌}
 use native.Mathlib.Decide.{dec_lt}
 use native.Mathlib.Omega.{arith}
-use borrow.Author.Tests.{eqb-true, ne_eqb, lt-ltb, le-ltb, le-leb, lt-leb}
+use borrow.Author.Tests.{lt-ltb, le-ltb, le-leb, lt-leb}
 use lib.ListN.{length, get_or, length-append, get_or-append}
 use lib.Seq.{get_or-append_seam}
-use Rattle.std.specs.List.{list_any}
-use Rattle.std.proofs.lemmas.Grind.{get_or_default_zero}
-use Rattle.std.proofs.lemmas.List.Folds.{Any-from_list_any}
-use Rattle.std.proofs.lemmas.Map.Keys.{IsDistinct-from_apart}
-use Rattle.std.proofs.lemmas.Map.Steps.{length-le_from_distinct_below}
 use Rattle.table.specs.Layout.{most_states}
 use Rattle.reach.specs.Order.{place_in, meet}
 use Rattle.reach.specs.Reached.{Distinct}
+use Rattle.reach.proofs.AtMost.{at_most}
 use Rattle.reach.proofs.Places.{place_bound, place_kept, place_last}
 
 -- ---- One state more
@@ -61,16 +55,9 @@ none_distinct = record { small = λ place h. absurd (omega arith); once = λ pla
 -- There are at most as many as states.
 pub distinct_few : (bound : ℕ) (order : List ℕ) → ((place : ℕ) → place < length order → get_or order place 0 < bound)
     → ((place : ℕ) → place < length order → place_in order (get_or order place 0) ≡ place) → length order ≤ bound
-distinct_few bound order small once = length-le_from_distinct_below order bound (IsDistinct-from_apart eqb order apart) below
-  where
-    apart : (i j d : ℕ) → i < j → j < length order → eqb (get_or order i d) (get_or order j d) ≡ false
-    apart i j d h l =
-        ne_eqb _ _ (λ e. absurd (let same = ap (place_in order) (sym (get_or_default_zero order i d (omega arith)) ∙ e ∙ get_or_default_zero order j d l) in omega (arith, once i (omega arith), once j l, same)))
-
-    below : (state : ℕ) → list_any (eqb state) order ≡ true → state < bound
-    below state e =
-        let (place, found, here, at, same) = Any-from_list_any (eqb state) order e in
-        omega (arith, small place here, at, get_or_default_zero order place found here, eqb-true state found same)
+distinct_few bound order small once =
+    at_most bound (length order) (λ place. get_or order place 0)
+    (record { small = small; apart = λ i j h l e. sym (once i h) ∙ ap (place_in order) e ∙ once j l })
 
 pub distinct_more : (order : List ℕ) (state : ℕ) → Distinct order → place_in order state ≡ length order → state < most_states → Distinct (order ++ (state ∷ []))
 distinct_more order state distinct fresh small =

@@ -273,14 +273,7 @@ fn kept_end(payload: u32) -> Next
 
 // What the step of a task leads to. The priority is the number of the task that it helps first.
 #[tactic(auto, unfolding(crate::specs::Transition::next_of))]
-pub fn next(
-    table: &Table,
-    task: u8,
-    priority: u8,
-    own: Task,
-    phase: Phase,
-    found: Found,
-) -> Next
+pub fn next(table: &Table, task: u8, priority: u8, own: Task, phase: Phase, found: Found) -> Next
     ensures { result ≡ next_of table.now.file.now table.now.shape task priority own phase found }
 {
     let word = found.word();

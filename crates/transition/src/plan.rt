@@ -76,10 +76,7 @@ fn applied(table: &Table, own: Task, task: u8) -> Access
     ensures { result ≡ plan_of table.now.file.now table.now.shape 0 0 own (Phase.Apply task) }
 {
     let operation = words::named_by(own.payload);
-    Access::swap_head(
-        own,
-        words::applied_word(table, own.head, task, operation),
-    )
+    Access::swap_head(own, words::applied_word(table, own.head, task, operation))
 }
 
 // The access of a task's next step. The priority is the number of the task that it helps first.
