@@ -1,6 +1,6 @@
 -- A start by its parts: the cells that it fills, and the records.
 use Rattle.std.specs.Prelude.{Result, Ok, Err, ⊤}
-use mathlib.Core.Path.{◌≡◌, refl, ap, sym, ◌∙◌}
+use mathlib.Core.Path.{◌≡◌, refl, sym, ◌∙◌}
 use mathlib.Core.Bool.{Bool, true, false, cond}
 use mathlib.Core.List.{List, [], ◌∷◌, ◌++◌, append-nil}
 use Prim.Native.Nat.{ℕ, zero, suc, ◌+◌, ◌<◌, ◌≤◌}
@@ -14,11 +14,10 @@ use Rattle.cells.specs.Image.{image_in}
 use Rattle.table.specs.Check.{check_of}
 use Rattle.records.specs.declared.record.Task.{Task}
 use Rattle.records.specs.Record.{idle_task}
-use Rattle.stepping.specs.Call.{idle_row, StartOutcome, with_row, filled, start_of, with_cells, admit_start_of}
+use Rattle.stepping.specs.Call.{idle_row, StartOutcome, with_row, start_of, with_cells, admit_start_of}
 use Rattle.stepping.proofs.Admission.{admitted_ranges}
 use Rattle.refusal.specs.declared.Refusal.TheVariants as cause
 use Rattle.laws.proofs.Clash.{never}
-use Rattle.table.specs.declared.Shape.{Shape}
 use Rattle.refusal.specs.declared.Refusal.{Refusal}
 use Rattle.stepping.specs.declared.call.Admission.{Admission}
 

@@ -63,12 +63,7 @@ pub fn step_record(
 }
 
 // Begins an operation for the task at a place of the row: its record is taken out, lent and put back.
-fn begin_in(
-    file: &[u8],
-    row: &mut [Task],
-    index: usize,
-    operation: usize,
-) -> Result<(), Refusal>
+fn begin_in(file: &[u8], row: &mut [Task], index: usize, operation: usize) -> Result<(), Refusal>
     requires { index < length row.old }
     ensures { record { row = row.new; answer = result } ≡ begin_of file.now row.old index operation }
 {
@@ -89,12 +84,7 @@ fn begin_past(file: &[u8], tasks: usize, task: usize, operation: usize) -> Resul
 
 // Begins an operation for a task.
 #[tactic(auto, using(crate::proofs::Calls::begin_past))]
-pub fn begin(
-    file: &[u8],
-    row: &mut [Task],
-    task: usize,
-    operation: usize,
-) -> Result<(), Refusal>
+pub fn begin(file: &[u8], row: &mut [Task], task: usize, operation: usize) -> Result<(), Refusal>
     ensures { record { row = row.new; answer = result } ≡ begin_of file.now row.old task operation }
 {
     let tasks = row.len();
@@ -122,12 +112,7 @@ fn step_in(
 }
 
 // What a step answers for a task that has no record in the row; the cells stay as they were.
-fn step_past(
-    file: &[u8],
-    cells: &mut [u64],
-    tasks: usize,
-    task: usize,
-) -> Result<Progress, Refusal>
+fn step_past(file: &[u8], cells: &mut [u64], tasks: usize, task: usize) -> Result<Progress, Refusal>
     ensures { (cells.new ≡ (step_task file.now cells.old tasks task (idle_task 0)).cells) × (result ≡ (step_task file.now cells.old tasks task (idle_task 0)).answer) }
 {
     let mut past = record::idle_task(0);

@@ -55,9 +55,7 @@ fn check_word(answer: Result<Shape, Refusal>) -> u64
     ensures { result ≡ check_word answer }
 {
     match answer {
-        Ok(shape) => {
-            word(0, 0, shape.states, halves(shape.operations, shape.start))
-        }
+        Ok(shape) => { word(0, 0, shape.states, halves(shape.operations, shape.start)) }
         Err(cause) => refused_word(cause),
     }
 }
@@ -78,11 +76,13 @@ fn step_word(answer: Result<Progress, Refusal>) -> u64
 {
     match answer {
         Ok(Progress::Running) => word(0, 0, 0, 0),
-        Ok(Progress::Ended {
-            response,
-            moved,
-            steps,
-        }) => word(0, ended_flags(moved), response, steps),
+        Ok(
+            Progress::Ended {
+                response,
+                moved,
+                steps,
+            },
+        ) => word(0, ended_flags(moved), response, steps),
         Err(cause) => refused_word(cause),
     }
 }

@@ -1,12 +1,11 @@
 -- A step from its parts: what its tests, its access and what follows give together.
-use Rattle.std.specs.Prelude.{Ok, Err}
-use mathlib.Core.Path.{◌≡◌, refl, sym, ap}
+use Rattle.std.specs.Prelude.{Ok}
+use mathlib.Core.Path.{◌≡◌, refl, sym}
 use mathlib.Core.Bool.{Bool, true, false, cond}
 use mathlib.Core.List.{List}
 use Prim.Native.Nat.{ℕ}
 use borrow.Author.Tests.{eq-eqb, ne_eqb}
 use lib.ListN.{get_or}
-use Rattle.refusal.specs.declared.Refusal.{Refusal}
 use Rattle.refusal.specs.declared.Refusal.TheVariants as cause
 use Rattle.table.specs.declared.Shape.{Shape}
 use Rattle.records.specs.declared.record.Task.{Task}
@@ -18,9 +17,8 @@ use Rattle.transition.specs.declared.access.Found.{Found}
 use Rattle.transition.specs.declared.access.Next.{Next}
 use Rattle.stepping.specs.declared.answer.Step.{Step}
 use Rattle.transition.specs.Transition.{plan_of, used_in_range, next_of}
-use Rattle.stepping.specs.Step.{touched, found_of, perform_of, cell_in_form, advance_of, answer_of, TaskOutcome}
+use Rattle.stepping.specs.Step.{touched, found_of, perform_of, cell_in_form, advance_of, answer_of}
 use Rattle.stepping.specs.Call.{refuse_step, step_left, step_from}
-use Rattle.stepping.specs.declared.answer.Progress.TheVariants as progress
 
 module _ (file : List ℕ) (shape : Shape) (cells : List ℕ) (n i : ℕ) (t : Task) (f : Phase) where
   -- A record of a known phase, by its form.

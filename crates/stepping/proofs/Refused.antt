@@ -24,7 +24,6 @@ use Rattle.transition.specs.Transition.{plan_of, used_in_range}
 use Rattle.stepping.specs.Step.{touched, cell_in_form, answer_of, TaskOutcome, led_to}
 use Rattle.stepping.specs.Call.{with_row, admit_of, StartOutcome, with_cells, filled, start_of, admit_start_of, refuse_begin, begin_from, begin_in, begin_task, refuse_step, touch, step_from, step_in, step_task, task_at, begin_of, step_of}
 use Rattle.stepping.specs.declared.call.Admission.{Admission}
-use Rattle.stepping.specs.declared.answer.Progress.TheVariants as progress
 
 -- ---- Start
 

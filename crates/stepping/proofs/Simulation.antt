@@ -1,5 +1,5 @@
 -- Begin and step on encoded cells and records do what the machine's begin and step do on the configuration.
-use Rattle.std.specs.Prelude.{Ok, Err}
+use Rattle.std.specs.Prelude.{Ok}
 use mathlib.Core.Path.{◌≡◌, refl, ap, sym, subst, ◌∙◌}
 use mathlib.Core.Bool.{Bool, true, false, cond}
 use mathlib.Core.List.{List, [], ◌∷◌}
@@ -47,7 +47,6 @@ use Rattle.stepping.proofs.Accesses.{cells_length, touched_in_form, result_simul
 use Rattle.stepping.proofs.Planned.{plan_formed, entry_in_range_lem}
 use Rattle.stepping.proofs.Advances.{advance_simulates, answer_simulates}
 use Rattle.stepping.specs.Access.{access_of as word_access}
-use Rattle.stepping.specs.declared.call.Admission.{Admission}
 
 -- A configuration whose cells and records are in range, with the steps of every pending operation below the ceiling.
 pub record InRange (b : Object) (n : ℕ) (c : Config) : Type 0 where

@@ -1,6 +1,6 @@
 -- The calls of docs/RUNS.md on lists of words and records: the tests in their order (docs/FORMATS.md, "When a call is not
 -- served"), the first cause that holds, what is left and what is answered.
-use Rattle.std.specs.Prelude.{true, false, cond, List, [], ◌∷◌, ◌++◌, ℕ, zero, suc, ◌+◌, eqb, ltb, length, get_or, set, Result, Ok, Err, ⊤}
+use Rattle.std.specs.Prelude.{cond, List, [], ◌∷◌, ◌++◌, ℕ, zero, suc, ◌+◌, eqb, ltb, length, get_or, set, Result, Ok, Err, ⊤}
 use Rattle.refusal.specs.declared.Refusal.{Refusal}
 use Rattle.refusal.specs.declared.Refusal.TheVariants as cause
 use Rattle.refusal.specs.Number.{number_of, Said, accepted, refused}

@@ -1,6 +1,6 @@
 -- Reading and changing operations, by the states that can be reached: what begin leaves, what a reading step answers, which states a
 -- run comes to, and which points are points of rest.
-use Rattle.std.specs.Prelude.{◌≡◌, true, false, ◌↔◌, ◌≢◌, List, [], ◌∷◌, ℕ, ◌+◌, ◌<◌, get_or, Ok, Err}
+use Rattle.std.specs.Prelude.{◌≡◌, true, false, ◌↔◌, ◌≢◌, List, [], ◌∷◌, ℕ, ◌+◌, ◌<◌, get_or, Ok}
 use Rattle.cells.specs.Form.{head_in_form}
 use Rattle.cells.specs.Image.{image}
 use Rattle.cells.specs.Layout.{state_in_word}

@@ -34,7 +34,6 @@ use Rattle.stepping.specs.Opening.{Opening, object_in, shown, start_store}
 use Rattle.stepping.specs.Print.{EmptyAt, Print, Shows}
 use Rattle.stepping.specs.Lent.{Memory, Places, store_at, LentCall, LentStart, RunOpened, serve_lent, Around, SameRun}
 use Rattle.stepping.specs.declared.answer.Progress.{Progress}
-use Rattle.stepping.specs.declared.answer.Progress.TheVariants as progress
 
 -- ---- The access rule, for all arguments
 
