@@ -16,7 +16,6 @@ use Rattle.stepping.specs.Call.{filled, with_row, StartOutcome, with_cells, admi
 use Rattle.stepping.proofs.Refused.{refused_start, refused_begin_row, refused_step_row}
 use Rattle.bench_row.specs.First.{first_count, start_first, begin_first, step_first}
 use Rattle.table.specs.declared.Shape.{Shape}
-use Rattle.stepping.specs.declared.answer.Progress.TheVariants as progress
 
 -- ---- How many records are lent
 

@@ -20,7 +20,12 @@ fn first_count(tasks: usize) -> usize
 
 // Starts a run for a number of tasks, with the first of the records.
 #[tactic(auto, unfolding(crate::specs::First::start_first))]
-pub fn start_first(file: &[u8], cells: &mut [u64], row: &mut [Task; 9], tasks: usize) -> Result<(), Refusal>
+pub fn start_first(
+    file: &[u8],
+    cells: &mut [u64],
+    row: &mut [Task; 9],
+    tasks: usize,
+) -> Result<(), Refusal>
     ensures { record { cells = cells.new; row = row.new; answer = result } ≡ start_first file.now cells.old row.old tasks }
 {
     drive::start(file, cells, &mut row[..first_count(tasks)])

@@ -13,7 +13,7 @@ pub struct Field {
 
 impl Field {
     // What the field holds in a word.
-    pub fn of(self, word: u64) -> u64
+    pub(crate) fn of(self, word: u64) -> u64
         requires { (0 < self.place) × (0 < self.size) }
         ensures { result ≡ word / self.place % self.size }
     {
