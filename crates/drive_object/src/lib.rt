@@ -25,7 +25,10 @@ use window::LineLevel;
 fn word(cause: u8, flags: u8, low: u16, high: u32) -> u64
     ensures { result ≡ word_of cause flags low high }
 {
-    cause as u64 + 0x100 * flags as u64 + 0x1_0000 * low as u64 + 0x1_0000_0000 * high as u64
+    u64::from(cause)
+        + 0x100 * u64::from(flags)
+        + 0x1_0000 * u64::from(low)
+        + 0x1_0000_0000 * u64::from(high)
 }
 
 // The flags of an operation that has ended: bit 0, and bit 1 if it moved the state.
@@ -47,7 +50,7 @@ fn refused_word(cause: Refusal) -> u64
 fn halves(low: u16, high: u16) -> u32
     ensures { result ≡ low + 65536 * high }
 {
-    low as u32 + 0x1_0000 * high as u32
+    u32::from(low) + 0x1_0000 * u32::from(high)
 }
 
 // The word of what a check of a table answers.

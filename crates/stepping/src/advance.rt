@@ -14,7 +14,7 @@ fn turned(tasks: usize, priority: u16) -> u16
     requires { (0 < tasks) × (tasks < 256) }
     ensures { result ≡ (priority + 1) % tasks }
 {
-    ((priority as usize + 1) % tasks) as u16
+    ((usize::from(priority) + 1) % tasks) as u16
 }
 
 // The record in another phase, after so many steps.

@@ -98,7 +98,7 @@ fn begin_in(
     if task >= tasks {
         return Err(Refusal::Task);
     }
-    if operation >= shape.operations as usize {
+    if operation >= usize::from(shape.operations) {
         return Err(Refusal::Operation);
     }
     let chosen = operation as u16;

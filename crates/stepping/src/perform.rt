@@ -27,9 +27,9 @@ pub fn cell_in_form(shape: Shape, tasks: usize, cell: usize, word: u64) -> bool
     ensures { result ≡ cell_in_form shape tasks cell word }
 {
     if cell == 0 {
-        return form::head_in_form(word, shape.states as u32, tasks);
+        return form::head_in_form(word, u32::from(shape.states), tasks);
     }
-    form::announcement_in_form(word, shape.operations as u32, tasks)
+    form::announcement_in_form(word, u32::from(shape.operations), tasks)
 }
 
 // Makes an access; every cell but the touched one stays as it was.
