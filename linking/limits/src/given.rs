@@ -33,7 +33,7 @@ const RINGS: Turn = Turn {
 
 /// Tests come before the loops: 2 holds states and operations to these numbers, 14 the rings, and 19 the targets to one for
 /// each state. The search for states takes no state twice. Records have no loop: the compiler writes the eight out.
-const TURNS: [Turns<'static>; 8] = [
+const TURNS: [Turns<'static>; 9] = [
     ("drive_check", &[OPERATIONS, STATES_OF_EACH]),
     (
         "drive_canonical",
@@ -49,16 +49,10 @@ const TURNS: [Turns<'static>; 8] = [
     ("drive_force", &[OPERATIONS, STATES_OF_EACH, STATES]),
     ("game::our_turn", &[OPERATIONS, OPERATIONS, OPERATIONS_OF_EACH]),
     ("drive_start", &[OPERATIONS, STATES_OF_EACH]),
+    ("drive::begin_record", &[OPERATIONS, STATES_OF_EACH]),
     (
-        "stepping::call::begin_task",
-        &[
-            OPERATIONS,
-            STATES_OF_EACH,
-            STATES,
-            STATES,
-            OPERATIONS_OF_EACH,
-            STATES,
-        ],
+        "stepping::call::begun_task",
+        &[STATES, STATES, OPERATIONS_OF_EACH, STATES],
     ),
     ("desk_owner", &[RINGS, RINGS]),
     ("desk_table", &[RINGS, STATES]),
