@@ -1,14 +1,15 @@
 -- docs/FORMATS.md, "The bench": the lines that it prints.
-use Rattle.std.specs.Prelude.{cond, List, [], ◌∷◌, ◌++◌, ℕ, zero, suc, ◌+◌, ◌/◌, ◌%◌, ltb}
+use Rattle.std.specs.Prelude.{cond, List, [], ◌∷◌, ◌++◌, ℕ, zero, suc, ◌+◌, ◌/◌, ◌%◌, ltb, Result, Ok, Err}
 use Rattle.io.specs.Digits.{last_digits}
 use Rattle.laws.specs.Bit.{bit}
 use Rattle.refusal.specs.Number.{number_of}
 use Rattle.cells.specs.Count.{mark_count}
 use Rattle.bench_lines.specs.declared.text.Base.{Base}
 use Rattle.bench_lines.specs.declared.text.Base.TheVariants.{Decimal, Hexadecimal}
-use Rattle.bench_lines.specs.declared.reply.Reply.{Reply}
-use Rattle.bench_lines.specs.declared.reply.Reply.TheVariants.{Silent, Started, Ended, Refused}
 use Rattle.bench_lines.specs.Command.{space, zero_digit}
+use Rattle.bench_lines.specs.declared.reply.Reply.{Reply}
+use Rattle.bench_lines.specs.declared.reply.Reply.TheVariants as reply
+use Rattle.refusal.specs.declared.Refusal.{Refusal}
 
 -- Byte 10, with which every line is closed.
 abbrev pub newline : ℕ
@@ -47,11 +48,11 @@ number_line letter numbers = line_of letter (parted_in Decimal numbers)
 
 -- The line of a reply: `n` with tasks, states and operations, `r` with task, response and 1 if the state moved, else 0, `x` with the
 -- number of the cause.
-abbrev pub reply_line : Reply → List ℕ
-reply_line Silent = []
-reply_line (Started k s m) = number_line 110 (k ∷ s ∷ m ∷ [])
-reply_line (Ended t r moved) = number_line 114 (t ∷ r ∷ bit moved ∷ [])
-reply_line (Refused c) = number_line 120 (number_of c ∷ [])
+abbrev pub reply_line : Result Reply Refusal → List ℕ
+reply_line (Ok reply.Silent) = []
+reply_line (Ok (reply.Started k s m)) = number_line 110 (k ∷ s ∷ m ∷ [])
+reply_line (Ok (reply.Ended t r moved)) = number_line 114 (t ∷ r ∷ bit moved ∷ [])
+reply_line (Err c) = number_line 120 (number_of c ∷ [])
 
 -- The line of the cells: `m`, each cell in hex digits, and how many marks are set in all of them.
 unfoldable pub cells_line : List ℕ → List ℕ

@@ -20,7 +20,6 @@ pub enum Reply {
         response: u16,
         moved: bool,
     },
-    Refused(Refusal),
 }
 
 const MOST_CELLS: usize = 9;
@@ -39,23 +38,27 @@ fn number_line(letter: u8, values: &[u64]) -> Text
     line
 }
 
-// The line of a reply; a silent one has no bytes.
-pub fn reply_line(reply: Reply) -> Text
+// The line of a reply or of a refusal; a silent reply has no bytes.
+pub fn reply_line(reply: Result<Reply, Refusal>) -> Text
     ensures { result.items ≡ reply_line reply }
 {
     match reply {
-        Reply::Silent => Text::new(),
-        Reply::Started {
-            tasks,
-            states,
-            operations,
-        } => number_line(b'n', &[tasks, states, operations].map(u64::from)),
-        Reply::Ended {
-            task,
-            response,
-            moved,
-        } => number_line(b'r', &[task, response, u16::from(moved)].map(u64::from)),
-        Reply::Refused(cause) => number_line(b'x', &[u64::from(u8::from(cause))]),
+        Ok(Reply::Silent) => Text::new(),
+        Ok(
+            Reply::Started {
+                tasks,
+                states,
+                operations,
+            },
+        ) => number_line(b'n', &[tasks, states, operations].map(u64::from)),
+        Ok(
+            Reply::Ended {
+                task,
+                response,
+                moved,
+            },
+        ) => number_line(b'r', &[task, response, u16::from(moved)].map(u64::from)),
+        Err(cause) => number_line(b'x', &[u64::from(u8::from(cause))]),
     }
 }
 

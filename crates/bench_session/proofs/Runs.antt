@@ -1,5 +1,5 @@
 -- The steps of a task until its operation has ended.
-use Rattle.std.specs.Prelude.{Result, Ok, Err, ⊤}
+use Rattle.std.specs.Prelude.{Result, Err, ⊤}
 use mathlib.Core.Path.{◌≡◌, refl, ap, sym, ◌∙◌}
 use mathlib.Core.Bool.{true, false}
 use mathlib.Core.List.{List, ◌++◌}
@@ -12,7 +12,6 @@ use Rattle.records.specs.declared.record.Task.{Task}
 use Rattle.stepping.specs.Call.{StartOutcome}
 use Rattle.bench_row.specs.First.{start_first}
 use Rattle.bench_row.proofs.Firsts.{refused_start_first}
-use Rattle.bench_lines.specs.declared.reply.Reply.TheVariants as reply
 use Rattle.bench_session.specs.declared.run.Bench.{Bench}
 use Rattle.bench_session.specs.Run.{Handled, cell_count, start_held, start_bench, most_turns, runs_on, finish_from, step_bench}
 
@@ -41,7 +40,7 @@ finish_none k file t out e = rw e
 -- A refused start leaves the cells and the records as they were.
 pub refused_keeps : (file : List ℕ) (bench : Bench) (k n m : ℕ) (cells : List ℕ) (row : List Task) (a : Result ⊤ Refusal) (c : Refusal) → n ≡ k → m ≡ cell_count n
     → ◌≡◌ {A = StartOutcome} (record { cells = cells; row = row; answer = a }) (start_first file (take m bench.cells) bench.row n) → a ≡ Err c
-    → ◌≡◌ {A = Handled} (record { bench = record { cells = cells ++ drop m bench.cells; row = row; tasks = bench.tasks }; reply = reply.Refused c }) (start_bench file bench k)
+    → ◌≡◌ {A = Handled} (record { bench = record { cells = cells ++ drop m bench.cells; row = row; tasks = bench.tasks }; reply = Err c }) (start_bench file bench k)
 unfolding start_bench start_held
 refused_keeps file bench k n m cells row a c count lent e refused =
     let answered : (start_first file (take m bench.cells) bench.row n).answer ≡ Err c = sym (ap (λ (s : StartOutcome). s.answer) e) ∙ refused in

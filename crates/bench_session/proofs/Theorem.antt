@@ -17,8 +17,6 @@ use Rattle.stepping.specs.Call.{with_row, admit_of, step_in, step_task, step_of,
 use Rattle.stepping.specs.Opening.{Opening}
 use Rattle.stepping.specs.Runs.{Store, serve_of, run_of, history_of}
 use Rattle.stepping.proofs.Continued.{run_append, accepted_pends}
-use Rattle.bench_lines.specs.declared.reply.Reply.{Reply}
-use Rattle.bench_lines.specs.declared.reply.Reply.TheVariants as reply
 use Rattle.bench_row.specs.First.{step_first}
 use Rattle.bench_lines.specs.Line.{cells_line}
 use Rattle.bench_session.specs.declared.run.Bench.{Bench}
@@ -34,6 +32,8 @@ use Rattle.table.specs.declared.Shape.{Shape}
 use Rattle.refusal.specs.declared.Refusal.{Refusal}
 use Rattle.stepping.specs.declared.answer.Progress.{Progress}
 use Rattle.stepping.specs.declared.answer.Progress.TheVariants as progress
+use Rattle.bench_lines.specs.declared.reply.Reply.{Reply}
+use Rattle.bench_lines.specs.declared.reply.Reply.TheVariants as reply
 
 -- What a step on the lent cells and records answers.
 abbrev answer_on : List ℕ → Bench → ℕ → Result Progress Refusal
@@ -47,7 +47,7 @@ step_reply_lem file bench t a e = ap (step_reply t) e
 
 -- `d t` ends with a response from here on.
 abbrev Responds : List ℕ → (k t : ℕ) → Handled → Type 0
-Responds file k t out = (r : ℕ) × (v : Bool) × ((finish_from k file t out).reply ≡ reply.Ended t r v)
+Responds file k t out = (r : ℕ) × (v : Bool) × ((finish_from k file t out).reply ≡ (Ok (reply.Ended t r v)))
 
 -- The first answer that is not running is the last.
 ended_responds : (file : List ℕ) (k t : ℕ) (bench : Bench) (r : ℕ) (v : Bool) (i : ℕ) → answer_on file bench t ≡ (Ok (progress.Ended r v i)) → Responds file k t (step_bench file bench t)
@@ -99,7 +99,7 @@ finishes file bytes input t = at (answer_on file bench t) refl
     bench = bench_after file input
 
     ends : (a : Result Progress Refusal) → answer_on file bench t ≡ a → EndsBy t (step_reply t a) (finish_bench file bench t).reply → EndsBy t (step_bench file bench t).reply (finish_bench file bench t).reply
-    ends a e h = subst (λ (first : Reply). EndsBy t first (finish_bench file bench t).reply) (sym (step_reply_lem file bench t a e)) h
+    ends a e h = subst (λ (first : Result Reply Refusal). EndsBy t first (finish_bench file bench t).reply) (sym (step_reply_lem file bench t a e)) h
 
     last : (a : Result Progress Refusal) → answer_on file bench t ≡ a → runs_on (step_reply t a) ≡ false → (finish_bench file bench t).reply ≡ step_reply t a
     last a e h = let told = step_reply_lem file bench t a e in ap (λ (z : Handled). z.reply) (finish_last most_turns file t (step_bench file bench t) (ap runs_on told ∙ h)) ∙ told

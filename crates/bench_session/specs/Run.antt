@@ -13,13 +13,13 @@ use Rattle.stepping.specs.Runs.{Store}
 use Rattle.bench_row.specs.First.{first_count, start_first, begin_first, step_first}
 use Rattle.bench_lines.specs.declared.command.Command.{Command}
 use Rattle.bench_lines.specs.declared.command.Command.TheVariants as command
-use Rattle.bench_lines.specs.declared.reply.Reply.{Reply}
-use Rattle.bench_lines.specs.declared.reply.Reply.TheVariants as reply
 use Rattle.bench_session.specs.declared.run.Bench.{Bench}
 use Rattle.bench_lines.specs.Line.{reply_line, cells_line}
 use Rattle.refusal.specs.declared.Refusal.{Refusal}
 use Rattle.stepping.specs.declared.answer.Progress.{Progress}
 use Rattle.stepping.specs.declared.answer.Progress.TheVariants as progress
+use Rattle.bench_lines.specs.declared.reply.Reply.{Reply}
+use Rattle.bench_lines.specs.declared.reply.Reply.TheVariants as reply
 
 -- The bench before the first line.
 abbrev pub unstarted_bench : Bench
@@ -36,7 +36,7 @@ lent bench = record { cells = take (cell_count bench.tasks) bench.cells; row = t
 -- What is left after a line, and what is answered.
 pub record Handled : Type 0 where
   pub bench : Bench
-  pub reply : Reply
+  pub reply : Result Reply Refusal
 
 -- What is left after a step, and what it answered.
 pub record Stepped : Type 0 where
@@ -49,9 +49,9 @@ pub record Stepped : Type 0 where
 abbrev pub opened : Bench → ℕ → Shape → StartOutcome → Result ⊤ Refusal → Handled
 opened bench k shape out (Ok tt) = record {
   bench = record { cells = out.cells; row = out.row; tasks = k };
-  reply = reply.Started k shape.states shape.operations;
+  reply = Ok (reply.Started k shape.states shape.operations);
 }
-opened bench k shape out (Err c) = record { bench = bench; reply = reply.Refused c }
+opened bench k shape out (Err c) = record { bench = bench; reply = Err c }
 
 -- The states and operations that it prints are those of the trailer.
 abbrev pub opened_by : List ℕ → Bench → ℕ → StartOutcome → Handled
@@ -72,9 +72,9 @@ start_bench file bench k = opened_by file bench k (start_held file bench.cells b
 -- ---- `b t o`: an accepted begin prints nothing
 
 -- A refused begin prints its number.
-abbrev pub begin_reply : Result ⊤ Refusal → Reply
-begin_reply (Ok tt) = reply.Silent
-begin_reply (Err c) = reply.Refused c
+abbrev pub begin_reply : Result ⊤ Refusal → Result Reply Refusal
+begin_reply (Ok tt) = Ok reply.Silent
+begin_reply (Err c) = Err c
 
 -- A begin changes the records alone.
 abbrev pub begin_after : Bench → BeginOutcome → Handled
@@ -88,10 +88,10 @@ begin_bench file bench t o = begin_after bench (begin_first file bench.row bench
 -- ---- `s t`: a step that answers running prints nothing
 
 -- A step that ends its operation prints the response and whether the state moved; a refused one prints its number.
-abbrev pub step_reply : ℕ → Result Progress Refusal → Reply
-step_reply t (Ok progress.Running) = reply.Silent
-step_reply t (Ok (progress.Ended r v k)) = reply.Ended t r v
-step_reply t (Err c) = reply.Refused c
+abbrev pub step_reply : ℕ → Result Progress Refusal → Result Reply Refusal
+step_reply t (Ok progress.Running) = Ok reply.Silent
+step_reply t (Ok (progress.Ended r v k)) = Ok (reply.Ended t r v)
+step_reply t (Err c) = Err c
 
 -- A step on the first of the cells and of the records; the others remain.
 abbrev pub held_after : ℕ → List ℕ → ℕ → call.StepOutcome → Stepped
@@ -113,11 +113,11 @@ step_bench file bench t = step_after t (step_held file bench.cells bench.row ben
 -- ---- `d t`: steps until one ends the operation or is refused, at most k after the first
 
 -- Whether a step has answered running.
-abbrev pub runs_on : Reply → Bool
-runs_on reply.Silent = true
-runs_on (reply.Started k s m) = false
-runs_on (reply.Ended t r v) = false
-runs_on (reply.Refused c) = false
+abbrev pub runs_on : Result Reply Refusal → Bool
+runs_on (Ok reply.Silent) = true
+runs_on (Ok (reply.Started k s m)) = false
+runs_on (Ok (reply.Ended t r v)) = false
+runs_on (Err c) = false
 
 -- After a step that answered running comes another one.
 unfoldable pub finish_from : ℕ → List ℕ → ℕ → Handled → Handled
@@ -149,7 +149,7 @@ cells_printed bench = record { bench = bench; text = cells_line (take (cell_coun
 
 -- A line of no known form is refused with 13.
 abbrev pub refuse_line : Bench → Handled
-refuse_line bench = record { bench = bench; reply = reply.Refused cause.Line }
+refuse_line bench = record { bench = bench; reply = Err cause.Line }
 
 -- A command by its form.
 abbrev pub act_of : List ℕ → Bench → Command → Printing

@@ -2,7 +2,6 @@
 use Rattle.std.specs.Prelude.{◌≡◌, Bool, true, false, cond, Option, Some, None, Result, Ok, Err, List, [], ◌∷◌, ◌++◌, ℕ, ◌<◌, eqb, ltb, length}
 use Rattle.arrayvec.specs.ArrayVec.{ArrayVec}
 use Rattle.table.specs.Check.{check_of}
-use Rattle.bench_lines.specs.declared.reply.Reply.TheVariants as reply
 use Rattle.bench_session.specs.declared.run.Bench.{Bench}
 use Rattle.bench_session.specs.declared.session.Session.{Session}
 use Rattle.bench_lines.specs.Command.{command_of}
@@ -40,7 +39,7 @@ is_served (Err c) = false
 -- Of a table that is not served the number is printed.
 abbrev pub table_text : Result Shape Refusal → List ℕ
 table_text (Ok shape) = []
-table_text (Err c) = reply_line (reply.Refused c)
+table_text (Err c) = reply_line (Err c)
 
 -- All that is printed: for a table that is not served its line alone, whatever the input.
 unfoldable pub output_of : (file input : List ℕ) → List ℕ

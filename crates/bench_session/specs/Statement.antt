@@ -1,25 +1,26 @@
 -- What is proved of the bench as a whole, as types over its definitions. `proofs/Theorem.antt` has a proof of each.
-use Rattle.std.specs.Prelude.{◌≡◌, Bool, false, cond, ◌≢◌, List, [], ◌∷◌, ◌++◌, ℕ, eqb}
+use Rattle.std.specs.Prelude.{◌≡◌, Bool, false, cond, ◌≢◌, List, [], ◌∷◌, ◌++◌, ℕ, eqb, Result, Ok, Err}
 use Rattle.table.specs.File.{Bytes, shape_of}
 use Rattle.table.specs.Check.{check_of}
 use Rattle.machine.specs.Calls.{Call}
 use Rattle.stepping.specs.Runs.{Store, run_of}
 use Rattle.stepping.specs.Opening.{Opening, shown}
 use Rattle.bench_lines.specs.declared.command.Command.TheVariants as command
-use Rattle.bench_lines.specs.declared.reply.Reply.{Reply}
-use Rattle.bench_lines.specs.declared.reply.Reply.TheVariants as reply
 use Rattle.bench_session.specs.declared.run.Bench.{Bench}
 use Rattle.bench_session.specs.Run.{lent, step_bench, finish_bench, serve_command}
 use Rattle.bench_lines.specs.Line.{newline, cells_line}
 use Rattle.bench_session.specs.Session.{is_served, table_text, output_of, Fed, new_session, and_then, feed, finish_text}
+use Rattle.bench_lines.specs.declared.reply.Reply.{Reply}
+use Rattle.bench_lines.specs.declared.reply.Reply.TheVariants as reply
+use Rattle.refusal.specs.declared.Refusal.{Refusal}
 
 -- How `d t` ends, by the reply of its first step: one that ends the operation or is refused is the last; after one that
 -- answers running the last is one that ends the operation, with some response and a yes or no.
-abbrev pub EndsBy : ℕ → (first last : Reply) → Type 0
-EndsBy t reply.Silent last = (r : ℕ) × (v : Bool) × (last ≡ reply.Ended t r v)
-EndsBy t (reply.Started k s m) last = ⊥
-EndsBy t (reply.Ended u r v) last = last ≡ reply.Ended u r v
-EndsBy t (reply.Refused c) last = last ≡ reply.Refused c
+abbrev pub EndsBy : ℕ → (first last : Result Reply Refusal) → Type 0
+EndsBy t (Ok reply.Silent) last = (r : ℕ) × (v : Bool) × (last ≡ (Ok (reply.Ended t r v)))
+EndsBy t (Ok (reply.Started k s m)) last = ⊥
+EndsBy t (Ok (reply.Ended u r v)) last = last ≡ (Ok (reply.Ended u r v))
+EndsBy t (Err c) last = last ≡ Err c
 
 -- The bench after any input.
 abbrev pub bench_after : (file input : List ℕ) → Bench

@@ -50,7 +50,7 @@ fn cell_count(tasks: usize) -> usize
 
 // Starts a run on the first of the cells and of the records. A refused start leaves the present run as it is.
 #[tactic(auto, unfolding(crate::specs::Run::start_bench, crate::specs::Run::start_held))]
-fn start(file: &[u8], bench: &mut Bench, tasks: u16) -> Reply
+fn start(file: &[u8], bench: &mut Bench, tasks: u16) -> Result<Reply, Refusal>
     ensures { record { bench = bench.new; reply = result } ≡ start_bench file.now bench.old tasks }
 {
     let count = usize::from(tasks);
@@ -58,67 +58,53 @@ fn start(file: &[u8], bench: &mut Bench, tasks: u16) -> Reply
     let mut cells = bench.cells;
     let answer = bench_row::start_first(file, &mut cells[..lent], &mut bench.row, count);
     bench.cells = cells;
-    match answer {
-        Err(cause) => Reply::Refused(cause),
-        Ok(()) => {
-            bench.tasks = count;
-            let shape = table::read_shape(file);
-            Reply::Started {
-                tasks,
-                states: shape.states,
-                operations: shape.operations,
-            }
-        }
-    }
+    answer?;
+    bench.tasks = count;
+    let shape = table::read_shape(file);
+    Ok(Reply::Started {
+        tasks,
+        states: shape.states,
+        operations: shape.operations,
+    })
 }
 
 // An accepted begin prints nothing.
-fn begin_reply(answer: Result<(), Refusal>) -> Reply
-    ensures { result ≡ begin_reply answer }
-{
-    match answer {
-        Ok(()) => Reply::Silent,
-        Err(cause) => Reply::Refused(cause),
-    }
-}
-
 #[tactic(auto, unfolding(crate::specs::Run::begin_bench))]
-fn begin(file: &[u8], bench: &mut Bench, task: u16, operation: u16) -> Reply
+fn begin(file: &[u8], bench: &mut Bench, task: u16, operation: u16) -> Result<Reply, Refusal>
     ensures { record { bench = bench.new; reply = result } ≡ begin_bench file.now bench.old task operation }
 {
     let tasks = bench.tasks;
-    let answer = bench_row::begin_first(
+    bench_row::begin_first(
         file,
         &mut bench.row,
         tasks,
         usize::from(task),
         usize::from(operation),
-    );
-    begin_reply(answer)
+    )?;
+    Ok(Reply::Silent)
 }
 
 // A step that answers running prints nothing.
-fn step_reply(task: u16, answer: Result<Progress, Refusal>) -> Reply
+fn step_reply(task: u16, answer: Result<Progress, Refusal>) -> Result<Reply, Refusal>
     ensures { result ≡ step_reply task answer }
 {
-    match answer {
-        Ok(Progress::Running) => Reply::Silent,
-        Ok(Progress::Ended {
+    match answer? {
+        Progress::Running => Ok(Reply::Silent),
+        Progress::Ended {
             response,
             moved,
             steps: _,
-        }) => Reply::Ended {
+        } => Ok(Reply::Ended {
             task,
             response,
             moved,
-        },
-        Err(cause) => Reply::Refused(cause),
+        }),
     }
 }
 
 // Makes a step on the first of the cells and of the records.
 #[tactic(auto, unfolding(crate::specs::Run::step_bench, crate::specs::Run::step_held))]
-fn step(file: &[u8], bench: &mut Bench, task: u16) -> Reply
+fn step(file: &[u8], bench: &mut Bench, task: u16) -> Result<Reply, Refusal>
     ensures { record { bench = bench.new; reply = result } ≡ step_bench file.now bench.old task }
 {
     let tasks = bench.tasks;
@@ -136,15 +122,15 @@ fn step(file: &[u8], bench: &mut Bench, task: u16) -> Reply
 }
 
 // Whether a step has answered running.
-fn runs_on(reply: Reply) -> bool
+fn runs_on(reply: Result<Reply, Refusal>) -> bool
     ensures { result ≡ runs_on reply }
 {
-    matches!(reply, Reply::Silent)
+    matches!(reply, Ok(Reply::Silent))
 }
 
 // Steps until the task's operation has ended, or a step is refused.
 #[tactic(auto, using(crate::proofs::Runs::finish_more, crate::proofs::Runs::finish_last, crate::proofs::Runs::finish_none, crate::proofs::Runs::most_turns_lem))]
-fn finish(file: &[u8], bench: &mut Bench, task: u16) -> Reply
+fn finish(file: &[u8], bench: &mut Bench, task: u16) -> Result<Reply, Refusal>
     ensures { record { bench = bench.new; reply = result } ≡ finish_bench file.now bench.old task }
 {
     let mut reply = step(file, bench, task);
@@ -175,7 +161,7 @@ fn act(file: &[u8], bench: &mut Bench, command: Command) -> Text
         Command::Step { task } => step(file, bench, task),
         Command::Finish { task } => finish(file, bench, task),
         Command::Print => return held_line(bench),
-        Command::Unknown => Reply::Refused(Refusal::Line),
+        Command::Unknown => Err(Refusal::Line),
     };
     reply::reply_line(reply)
 }
@@ -192,7 +178,7 @@ pub fn serve(file: &[u8], bench: &mut Bench, command: Command) -> Text
     ensures { record { bench = bench.new; text = result.items } ≡ serve_command file.now bench.old command }
 {
     if bench.tasks == 0 && !is_start(command) {
-        return reply::reply_line(Reply::Refused(Refusal::Line));
+        return reply::reply_line(Err(Refusal::Line));
     }
     act(file, bench, command)
 }

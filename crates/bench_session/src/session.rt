@@ -32,7 +32,7 @@ pub(crate) fn test_table(file: &[u8]) -> Result<(), Text>
 {
     match table::check(file) {
         Ok(_) => Ok(()),
-        Err(cause) => Err(reply::reply_line(Reply::Refused(cause))),
+        Err(cause) => Err(reply::reply_line(Err(cause))),
     }
 }
 
