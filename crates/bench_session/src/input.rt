@@ -42,7 +42,8 @@ fn read_all<R: Read, P: Print>(
     file: &[u8],
     session: &mut Session,
 ) -> Result<u64, u64>
-    ensures { Follows new_session session.old → Ended file.now session.new result }
+    requires { Follows new_session session.old }
+    ensures { Ended file.now session.new result }
 {
     for read in 0..MOST_READS {
         if !read_part(reader, rt, file, session) {

@@ -85,7 +85,7 @@ fn moves_met(table: &Table, met: &[u16], operation: u16) -> bool
 }
 
 // Whether an operation moves some state that can be reached; otherwise it is reading. One that moves no state of the table is
-// reading without a order.
+// reading without a search.
 #[tactic(auto, using(crate::proofs::Words::none_kept, crate::proofs::ChangingWords::unmoved_reading))]
 pub fn is_changing(table: &Table, operation: u16) -> bool
     ensures { result ≡ changing table.now.file.now table.now.shape operation }

@@ -81,11 +81,8 @@ pub fn serve_window(
     ensures { record { cells = cells.new; row = row.new; windows = windows.new; answer = result } ≡ window_of file.now cells.old row.old windows.old task }
 {
     find_window(windows, row.len(), task)?;
-    // The eight bytes are there, as the tests have told.
     let (_, rest) = windows.split_at_mut(BYTES * task);
-    let Some(window) = rest.first_chunk_mut() else {
-        return Err(Refusal::Task);
-    };
+    let window = rest.first_chunk_mut().unwrap();
     match window[COMMAND] {
         0 => Ok(()),
         1 if write::status_in(window).done => write::refuse(window, Refusal::Unacknowledged),
