@@ -1,6 +1,5 @@
 // The record and the answer of an accepted step.
 ghost use Rattle.std.specs.Prelude.{◌≡◌, ◌+◌, ◌%◌, ◌<◌, Ok};
-ghost use Rattle.records.specs.Phase.{phase_number};
 ghost use Rattle.stepping.specs.Step.{advance_of, answer_of};
 
 use crate::answer::{Progress, Step};
@@ -17,29 +16,6 @@ fn turned(tasks: usize, priority: u16) -> u16
     ((usize::from(priority) + 1) % tasks) as u16
 }
 
-// The record in another phase, after so many steps.
-fn stepped(
-    own: Task,
-    steps: u32,
-    priority: u16,
-    next: Phase,
-    payload: u32,
-    head: u64,
-    announcement: u64,
-) -> Task
-    ensures { result ≡ record { head = head; announcement = announcement; payload = payload; steps = steps; operation = own.operation; priority = priority; phase = phase_number next } }
-{
-    Task {
-        head,
-        announcement,
-        payload,
-        steps,
-        operation: own.operation,
-        priority,
-        phase: u32::from(next),
-    }
-}
-
 // The record after a step, and what it comes to; after one that ended it is idle. The count takes in this step.
 pub(crate) fn advance(tasks: usize, own: Task, next: Next) -> Step
     requires { (0 < tasks) × (tasks < 256) × (own.steps < 1000000) }
@@ -53,19 +29,23 @@ pub(crate) fn advance(tasks: usize, own: Task, next: Next) -> Step
             head,
             announcement,
         } => Step {
-            task: stepped(own, steps, own.priority, phase, payload, head, announcement),
+            task: Task {
+                head,
+                announcement,
+                payload,
+                steps,
+                phase: u32::from(phase),
+                ..own
+            },
             progress: Progress::Running,
         },
         Next::Turn => Step {
-            task: stepped(
-                own,
+            task: Task {
                 steps,
-                turned(tasks, own.priority),
-                Phase::Poll,
-                0,
-                0,
-                0,
-            ),
+                operation: own.operation,
+                phase: u32::from(Phase::Poll),
+                ..record::idle_task(turned(tasks, own.priority))
+            },
             progress: Progress::Running,
         },
         Next::End { response, moved } => Step {

@@ -72,13 +72,9 @@ fn begun_task(table: &Table, operation: u16, own: Task) -> Task
     ensures { result ≡ begun_task table.now.file.now table.now.shape operation own }
 {
     Task {
-        head: 0,
-        announcement: 0,
-        payload: 0,
-        steps: 0,
         operation,
-        priority: own.priority,
         phase: first_phase(table, operation),
+        ..record::idle_task(own.priority)
     }
 }
 
