@@ -8,7 +8,6 @@ use crate::run;
 use crate::run::Bench;
 use arrayvec::ArrayVec;
 use bench_lines::command::Command;
-use bench_lines::reply::Reply;
 use bench_lines::text::Text;
 use bench_lines::{command, reply};
 
