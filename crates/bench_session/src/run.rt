@@ -41,11 +41,7 @@ pub fn unstarted() -> Bench
 fn cell_count(tasks: usize) -> usize
     ensures { (result ≡ cell_count tasks) × (result ≤ 9) }
 {
-    if tasks < MOST_CELLS {
-        tasks + 1
-    } else {
-        MOST_CELLS
-    }
+    tasks.min(MOST_CELLS - 1) + 1
 }
 
 // Starts a run on the first of the cells and of the records. A refused start leaves the present run as it is.

@@ -57,14 +57,14 @@ pub fn admit_start(file: &[u8], cells: usize, tasks: usize) -> Result<u16, Refus
     Ok(admission.shape.start)
 }
 
-// The first phase's number: a changing operation is announced, a reading one has one step.
-fn first_phase(table: &Table, operation: u16) -> u32
-    ensures { result ≡ cond (changing table.now.file.now table.now.shape operation) (phase_number Phase.Announce) (phase_number Phase.ReadOnly) }
+// The first phase: a changing operation is announced, a reading one has one step.
+fn first_phase(table: &Table, operation: u16) -> Phase
+    ensures { result ≡ cond (changing table.now.file.now table.now.shape operation) Phase.Announce Phase.ReadOnly }
 {
     if reach::is_changing(table, operation) {
-        return u32::from(Phase::Announce);
+        return Phase::Announce;
     }
-    u32::from(Phase::ReadOnly)
+    Phase::ReadOnly
 }
 
 // The record of a task that has begun an operation.
@@ -73,7 +73,7 @@ fn begun_task(table: &Table, operation: u16, own: Task) -> Task
 {
     Task {
         operation,
-        phase: first_phase(table, operation),
+        phase: u32::from(first_phase(table, operation)),
         ..record::idle_task(own.priority)
     }
 }
