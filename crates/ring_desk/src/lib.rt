@@ -2,9 +2,9 @@
 // desk"). A list of rings has two words a ring: its length in millimetres, and its kind.
 #![tactic(auto)]
 
-ghost use Rattle.std.specs.Prelude.{◌≡◌, true, ◌+◌, ◌*◌, ◌<◌, ◌≤◌, get_or, SomeIff};
+ghost use Rattle.std.specs.Prelude.{◌≡◌, true, ◌<◌, ◌≤◌, get_or, SomeIff};
 ghost use Rattle.std.specs.List.{list_all};
-ghost use Rattle.ring_desk.specs.Rings.{most_rings, ring_count, length_of, kind_of, ring_fits, rings_fit};
+ghost use Rattle.ring_desk.specs.Rings.{most_rings, ring_count, ring_fits, rings_fit};
 ghost use Rattle.ring_desk.specs.Owner.{owns_between, first_owner, owner_of};
 ghost use Rattle.ring_desk.specs.Table.{next_built, desk_entry, desk_shape, table_of};
 
