@@ -2,16 +2,15 @@
 // desk"). A list of rings has two words a ring: its length in millimetres, and its kind.
 #![tactic(auto)]
 
-ghost use Rattle.std.specs.Prelude.{◌≡◌, true, ◌+◌, ◌*◌, ◌<◌, ◌≤◌, get_or, SomeIff};
+ghost use Rattle.std.specs.Prelude.{◌≡◌, true, ◌<◌, ◌≤◌, get_or, SomeIff};
 ghost use Rattle.std.specs.List.{list_all};
-ghost use Rattle.std.proofs.lemmas.List.Edits.{sets};
-ghost use Rattle.table_writer.specs.Written.{state_bytes, entries_of};
-ghost use Rattle.ring_desk.specs.Rings.{most_rings, ring_count, length_of, kind_of, ring_fits, rings_fit};
+ghost use Rattle.ring_desk.specs.Rings.{most_rings, ring_count, ring_fits, rings_fit};
 ghost use Rattle.ring_desk.specs.Owner.{owns_between, first_owner, owner_of};
-ghost use Rattle.ring_desk.specs.Table.{desk_operations, next_built, desk_entry, desk_shape, desk_file, table_of};
+ghost use Rattle.ring_desk.specs.Table.{next_built, desk_entry, desk_shape, table_of};
 
 use refusal::Refusal;
 use table::{Entry, Shape};
+use table_writer::Entries;
 
 const MOST_RINGS: usize = 255;
 
@@ -21,9 +20,6 @@ const LONGEST_RING: u32 = 20_000;
 const KEY: u32 = 1;
 
 const OPERATIONS: u16 = 3;
-
-// The bytes of the entries of one state.
-const STATE_BYTES: u32 = 6;
 
 // Whether a ring's length and kind are in range.
 #[tactic(auto, unfolding(crate::specs::Rings::ring_fits))]
@@ -101,49 +97,39 @@ fn after_take_out(built: u16) -> u16
     built.saturating_sub(1)
 }
 
-// An entry: its response is the number of rings built before.
-fn entry(next: u16, built: u16) -> Entry
-    ensures { (result.next ≡ next) × (result.response ≡ built) }
-{
-    Entry {
-        next,
-        response: built,
+// The object of a drive of so many rings.
+#[derive(Drop)]
+struct Desk {
+    rings: u16,
+    ghost few: { rings ≤ most_rings },
+}
+
+impl Entries for Desk {
+    ghost shape_of = { λ desk. desk_shape desk.rings };
+
+    ghost entry_of = { λ desk. desk_entry desk.rings };
+
+    fn shape(&self) -> Shape {
+        Shape {
+            offset: 0,
+            states: self.rings + 1,
+            operations: OPERATIONS,
+            start: 0,
+        }
     }
-}
 
-// Writes the entries of one state at a place of the room: read, build, take out.
-#[tactic(auto, using(laws::proofs::Lists::sets_then), unfolding(laws::specs::Joined::joined))]
-fn write_state(room: &mut [u8], at: u32, rings: u16, built: u16)
-    requires { at ≤ 6 * most_rings }
-    ensures { room.new ≡ sets room.old at (state_bytes desk_operations (desk_entry rings built)) }
-{
-    let read = entry(built, built);
-    let build = entry(after_build(rings, built), built);
-    let take_out = entry(after_take_out(built), built);
-    table_writer::write_entry(room, at, read);
-    table_writer::write_entry(room, at + 2, build);
-    table_writer::write_entry(room, at + 4, take_out);
-}
-
-// Writes the entries of all states at the room's start.
-#[tactic(auto, using(laws::proofs::Lists::sets_then, table_writer::proofs::ReadsBack::entries_length), unfolding(laws::specs::Joined::joined))]
-fn write_states(room: &mut [u8], rings: u16)
-    requires { rings ≤ most_rings }
-    ensures { room.new ≡ sets room.old 0 (entries_of (rings + 1) desk_operations (desk_entry rings)) }
-{
-    for built in 0..=rings {
-        write_state(room, STATE_BYTES * u32::from(built), rings, built);
+    // Its response is the number of rings built before.
+    fn entry_at(&self, built: u16, operation: u16) -> Entry {
+        let next = match operation {
+            0 => built,
+            1 => after_build(self.rings, built),
+            _ => after_take_out(built),
+        };
+        Entry {
+            next,
+            response: built,
+        }
     }
-}
-
-// Writes the file of a drive of so many rings at the room's start.
-#[tactic(auto, using(laws::proofs::Lists::sets_then, table_writer::proofs::ReadsBack::entries_length), unfolding(crate::specs::Table::desk_file, table_writer::specs::Written::file_of))]
-fn write_file(room: &mut [u8], rings: u16, shape: Shape)
-    requires { (rings ≤ most_rings) × (shape ≡ desk_shape rings) }
-    ensures { room.new ≡ sets room.old 0 (desk_file rings) }
-{
-    write_states(room, rings);
-    table_writer::write_trailer(room, STATE_BYTES * (u32::from(rings) + 1), shape);
 }
 
 // How many rings a list has that is in range.
@@ -159,21 +145,16 @@ fn count_rings(rings: &[u32]) -> Option<u16>
 }
 
 // Writes the object table of the drive at the room's start, and answers its length in bytes.
-#[tactic(auto, using(laws::proofs::Lists::written_over, crate::proofs::Ranges::fits_range, crate::proofs::WrittenTable::file_long, crate::proofs::WrittenTable::table_no_range, crate::proofs::WrittenTable::table_no_room, crate::proofs::WrittenTable::table_written))]
+#[tactic(auto, using(laws::proofs::Lists::written_over, crate::proofs::Ranges::fits_range, crate::proofs::WrittenTable::file_long, crate::proofs::WrittenTable::table_no_range, crate::proofs::WrittenTable::table_no_room, crate::proofs::WrittenTable::table_written), unfolding(crate::specs::Table::desk_file, table_writer::specs::Written::file_of))]
 pub fn write_table(rings: &[u32], room: &mut [u8]) -> Result<u32, Refusal>
     ensures { (room.new ≡ (table_of rings.now room.old).room) × (result ≡ (table_of rings.now room.old).answer) }
 {
     let count = count_rings(rings).ok_or(Refusal::Rings)?;
-    let shape = Shape {
-        offset: 0,
-        states: count + 1,
-        operations: OPERATIONS,
-        start: 0,
-    };
-    let length = table::file_length(shape);
+    let desk = Desk { rings: count };
+    let length = table::file_length(desk.shape());
     if room.len() < length {
         return Err(Refusal::Room);
     }
-    write_file(room, count, shape);
+    table_writer::write_file(room, &desk);
     Ok(length as u32)
 }
