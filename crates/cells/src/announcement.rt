@@ -29,7 +29,7 @@ pub fn announcement_word(announcement: Announcement, marks: u8) -> u64
 }
 
 // The announcement that a word holds.
-#[tactic(auto, using(crate::proofs::Fields::unpack_at, crate::proofs::Fields::unpack_places), unfolding(crate::specs::Layout::announcement_of, crate::proofs::Fields::unpack_at))]
+#[tactic(auto, using(crate::proofs::Fields::unpack_places), unfolding(crate::specs::Layout::announcement_of, crate::proofs::Fields::unpack_at))]
 pub fn read_announcement(word: u64) -> Announcement
     ensures { result ≡ announcement_of word }
 {

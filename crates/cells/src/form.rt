@@ -8,7 +8,7 @@ use crate::layout;
 const GREATEST_HOLDER: u64 = 8;
 
 // Whether a word has marks of tasks below `tasks` alone.
-#[tactic(auto, using(crate::proofs::MarkLaws::one_shifted, crate::proofs::MarkLaws::marks_within), unfolding(crate::specs::Form::marks_in_form))]
+#[tactic(auto, using(crate::proofs::MarkLaws::marks_within), unfolding(crate::specs::Form::marks_in_form))]
 fn marks_in_form(word: u64, tasks: usize) -> bool
     ensures { result ≡ marks_in_form tasks word }
 {
@@ -16,7 +16,7 @@ fn marks_in_form(word: u64, tasks: usize) -> bool
 }
 
 // Whether a head is in form, for a table with `states` states and a run of `tasks` tasks.
-#[tactic(auto, using(crate::proofs::Fields::unpack_at, crate::proofs::Fields::unpack_places), unfolding(crate::specs::Form::head_in_form, crate::specs::Form::in_form, crate::specs::Field::total, crate::specs::Form::head_fields_in_form, crate::proofs::Fields::unpack_at, crate::specs::Form::outcome_in_form))]
+#[tactic(auto, using(crate::proofs::Fields::unpack_places), unfolding(crate::specs::Form::head_in_form, crate::specs::Form::in_form, crate::specs::Field::total, crate::specs::Form::head_fields_in_form, crate::proofs::Fields::unpack_at, crate::specs::Form::outcome_in_form))]
 pub fn head_in_form(word: u64, states: u32, tasks: usize) -> bool
     ensures { result ≡ head_in_form states tasks word }
 {
@@ -32,7 +32,7 @@ pub fn head_in_form(word: u64, states: u32, tasks: usize) -> bool
 }
 
 // Whether an announcement is in form, for a table with `operations` operations and a run of `tasks` tasks.
-#[tactic(auto, using(crate::proofs::Fields::unpack_at, crate::proofs::Fields::unpack_places), unfolding(crate::specs::Form::announcement_in_form, crate::specs::Form::in_form, crate::specs::Field::total, crate::specs::Form::announcement_fields_in_form, crate::specs::Form::payload_in_form, crate::proofs::Fields::unpack_at))]
+#[tactic(auto, using(crate::proofs::Fields::unpack_places), unfolding(crate::specs::Form::announcement_in_form, crate::specs::Form::in_form, crate::specs::Field::total, crate::specs::Form::announcement_fields_in_form, crate::specs::Form::payload_in_form, crate::proofs::Fields::unpack_at))]
 pub fn announcement_in_form(word: u64, operations: u32, tasks: usize) -> bool
     ensures { result ≡ announcement_in_form operations tasks word }
 {

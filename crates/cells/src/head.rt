@@ -42,7 +42,7 @@ pub fn head_word(head: Head, marks: u8) -> u64
 }
 
 // The head that a word holds.
-#[tactic(auto, using(crate::proofs::Fields::unpack_at, crate::proofs::Fields::unpack_places), unfolding(crate::specs::Layout::head_of, crate::proofs::Fields::unpack_at))]
+#[tactic(auto, using(crate::proofs::Fields::unpack_places), unfolding(crate::specs::Layout::head_of, crate::proofs::Fields::unpack_at))]
 pub fn read_head(word: u64) -> Head
     ensures { result ≡ head_of word }
 {

@@ -8,7 +8,7 @@ use crate::layout;
 pub const NO_MARKS: u8 = 0;
 
 // The place value of a task's mark; 0 for a task beyond the marks.
-#[tactic(auto, using(crate::proofs::MarkLaws::one_shifted), unfolding(crate::specs::Layout::mark_of))]
+#[tactic(auto, unfolding(crate::specs::Layout::mark_of))]
 fn mark_of(task: usize) -> u64
     ensures { result ≡ mark_of task }
 {
@@ -28,7 +28,7 @@ pub fn has_mark(word: u64, task: usize) -> bool
 }
 
 // Link: the word with a task's mark.
-#[tactic(auto, using(crate::proofs::WordMarks::add_by_place, crate::proofs::WordMarks::add_mark_below))]
+#[tactic(auto, using(crate::proofs::WordMarks::add_by_place))]
 pub fn add_mark(word: u64, task: usize) -> u64
     ensures { result ≡ add_mark task word }
 {

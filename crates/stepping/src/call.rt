@@ -148,7 +148,7 @@ struct Place<'a> {
 impl Place<'_> {
     // A step for a pending record in form: its access is planned, the touched cell and the used entry are tested, and the
     // access is made.
-    #[tactic(auto, using(crate::proofs::Parts::cell_refused, crate::proofs::Parts::entry_refused, crate::proofs::Parts::accepted))]
+    #[tactic(auto, using(crate::proofs::Parts::accepted))]
     fn step_from(&self, cells: &mut [u64], own: Task, phase: Phase) -> Result<Step, Refusal>
         requires { (own.priority < self.now.tasks) × (own.steps < 1000000) × (touched (plan_of self.now.table.file.now self.now.table.shape self.now.task own.priority own phase) < length cells.old) × (own.phase ≡ 0 → ⊥) }
         ensures { step_left cells.new own result ≡ step_from self.now.table.file.now self.now.table.shape cells.old self.now.tasks self.now.task own (Ok phase) }
