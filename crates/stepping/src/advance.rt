@@ -1,5 +1,6 @@
 // The record and the answer of an accepted step.
 ghost use Rattle.std.specs.Prelude.{◌≡◌, ◌+◌, ◌%◌, ◌<◌, Ok};
+ghost use Rattle.records.specs.Phase.{phase_number};
 ghost use Rattle.stepping.specs.Step.{advance_of, answer_of};
 
 use crate::answer::{Progress, Step};
@@ -14,6 +15,18 @@ fn turned(tasks: usize, priority: u16) -> u16
     ensures { result ≡ (priority + 1) % tasks }
 {
     ((usize::from(priority) + 1) % tasks) as u16
+}
+
+// The record at the loop's begin, after so many steps and with a priority.
+fn polled(own: Task, steps: u32, priority: u16) -> Task
+    ensures { result ≡ record { head = 0; announcement = 0; payload = 0; steps = steps; operation = own.operation; priority = priority; phase = phase_number Phase.Poll } }
+{
+    Task {
+        steps,
+        operation: own.operation,
+        phase: u32::from(Phase::Poll),
+        ..record::idle_task(priority)
+    }
 }
 
 // The record after a step, and what it comes to; after one that ended it is idle. The count takes in this step.
@@ -40,12 +53,7 @@ pub(crate) fn advance(tasks: usize, own: Task, next: Next) -> Step
             progress: Progress::Running,
         },
         Next::Turn => Step {
-            task: Task {
-                steps,
-                operation: own.operation,
-                phase: u32::from(Phase::Poll),
-                ..record::idle_task(turned(tasks, own.priority))
-            },
+            task: polled(own, steps, turned(tasks, own.priority)),
             progress: Progress::Running,
         },
         Next::End { response, moved } => Step {
