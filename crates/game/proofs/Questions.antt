@@ -1,19 +1,24 @@
 -- The tests of a question say what it means that it is in range.
 use mathlib.Core.Path.{◌≡◌}
-use mathlib.Core.Bool.{true, and-eq-true_iff}
+use mathlib.Core.Bool.{true, false, and-eq-true_iff, and-false}
 use mathlib.Core.List.{List}
 use Prim.Native.Nat.{ℕ, ◌<◌, ◌≤◌}
 use native.Mathlib.Omega.{arith}
-use borrow.Author.Tests.{leb-true, ltb-true, eqb-true, le-leb, lt-ltb, eq-eqb}
+use borrow.Author.Tests.{leb-true, ltb-true, eqb-true, le-leb, lt-leb, lt-ltb, eq-eqb}
 use lib.Dec.{leb}
 use lib.ListN.{length, get_or}
-use Rattle.laws.proofs.Below.{all_at, all_of}
+use Rattle.laws.proofs.Below.{all_at, all_of, not_all}
 use Rattle.table.specs.declared.Shape.{Shape}
 use Rattle.game.specs.Force.{targets_fit, question_fits}
 use Rattle.game.specs.Statement.{Asked}
 
 module _ (shape : Shape) (targets : List ℕ) where
-  bytes_fit : length targets ≡ shape.states → ((k : ℕ) → k < length targets → leb (get_or targets k 0) 1 ≡ true) → targets_fit shape targets ≡ true
+  -- A byte over 1 is enough.
+  pub byte_unfit : (state : ℕ) → state < length targets → 1 < get_or targets state 0 → targets_fit shape targets ≡ false
+  unfolding targets_fit
+  byte_unfit state h over = simp (not_all (length targets) (λ k. leb (get_or targets k 0) 1) state h (lt-leb _ _ over), and-false)
+
+  pub bytes_fit : length targets ≡ shape.states → ((k : ℕ) → k < length targets → leb (get_or targets k 0) 1 ≡ true) → targets_fit shape targets ≡ true
   unfolding targets_fit
   bytes_fit long all = simp (eq-eqb _ _ long, all_of (length targets) (λ k. leb (get_or targets k 0) 1) all)
 
