@@ -134,7 +134,7 @@ known (Release j) h = worker 7 j (omega arith) h
 known (ReloadRelease j) h = worker 8 j (omega arith) h
 
 -- Past the last range there is no phase.
-unknown : (k : ℕ) → 87 < k → phase_of k ≡ Err cause.Record
+pub unknown : (k : ℕ) → 87 < k → phase_of k ≡ Err cause.Record
 unknown k h = past_singles k (omega arith) ∙ past_ranges working k 16 (omega arith)
 
 -- What is read from the number k: a phase with that number, which works for a task below n, or the refusal with 11.
