@@ -77,6 +77,6 @@ module _ (file cs : List ℕ) (ys : List Task) where
     pub few_records : length ys ≤ 8
     few_records = found.0
 
-    pub start_accepted : (cs' : List ℕ) (ys' : List Task) → cs' ≡ image_in (length cs) q → ys' ≡ idle_row (length ys) → StartSaid file cs ys cs' ys' (Ok tt)
+    pub start_accepted : StartSaid file cs ys (image_in (length cs) q) (idle_row (length ys)) (Ok tt)
     unfolding start_of image_in
-    start_accepted cs' ys' e f = rw (e, f, accepted, found.1, add-one) refl
+    start_accepted = rw (accepted, found.1, add-one) refl
