@@ -51,6 +51,16 @@ module _ (file cells : List ℕ) (row : List Task) (windows : List ℕ) (t : ℕ
     served_begin e d =
         rw ((lent_begin h (begin_of file row t (byte_at own 0 0)).answer).parts, read h 0 (omega arith)) (served_as 1 e (by_done d))
 
+    -- A begin command, by whether done stands.
+    pub served_begin_command : byte_at own 0 1 ≡ 1 → let done = (status_at own 0).done in let out = begin_of file row t (byte_at own 0 0) in let answer = cond done (Err cause.Unacknowledged) out.answer in
+        Leaves cells (cond done row out.row) (before ++ (after_begin own 0 answer ++ others)) (begun_answer answer)
+    served_begin_command e = by (status_at own 0).done refl
+      where
+        by : (d : Bool) → (status_at own 0).done ≡ d → let out = begin_of file row t (byte_at own 0 0) in let answer = cond d (Err cause.Unacknowledged) out.answer in
+            Leaves cells (cond d row out.row) (before ++ (after_begin own 0 answer ++ others)) (begun_answer answer)
+        by true stands = served_unacknowledged e stands
+        by false stands = served_begin e stands
+
     pub served_step : byte_at own 0 1 ≡ 2 → let out = step_of file cells row t in Leaves out.cells out.row (before ++ (after_step own 0 out.answer ++ others)) (stepped_answer out.answer)
     served_step e = rw (lent_step h (step_of file cells row t).answer).parts (served_as 2 e refl)
 

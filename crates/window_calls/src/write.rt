@@ -1,7 +1,8 @@
 // What a command leaves in the eight bytes of its task. Clauses see these as the windows of a task 0 alone.
-ghost use Rattle.std.specs.Prelude.{◌≡◌, ◌<◌, Ok, Err};
-ghost use Rattle.window.specs.Window.{status_at};
-ghost use Rattle.window.specs.Written.{marked, taken, refused_in, begun_in, ended_in, acknowledged_in, after_step};
+ghost use Rattle.std.specs.Prelude.{◌≡◌, ◌<◌, cond, Ok, Err};
+ghost use Rattle.window.specs.Window.{byte_at, status_at};
+ghost use Rattle.window.specs.Written.{marked, taken, refused_in, begun_in, ended_in, acknowledged_in, after_begin, after_step};
+ghost use Rattle.window.specs.Serve.{begun_answer, stepped_answer};
 
 use crate::status;
 use refusal::Refusal;
@@ -9,7 +10,7 @@ use stepping::answer::Progress;
 use window::Status;
 
 // The bytes of a window that are read or written.
-pub(crate) const OPERATION: usize = 0;
+const OPERATION: usize = 0;
 
 pub(crate) const COMMAND: usize = 1;
 
@@ -34,6 +35,16 @@ pub(crate) fn status_in(window: &Window) -> Status
     ensures { (result ≡ status_at window.now 0) × (result.unnamed < 16) }
 {
     status::read_status(window[STATUS])
+}
+
+// The operation that a begin command asks for: none while done stands, not acknowledged.
+pub(crate) fn asked_operation(window: &Window) -> Result<usize, Refusal>
+    ensures { result ≡ cond (status_at window.now 0).done (Err Refusal.Unacknowledged) (Ok (byte_at window.now 0 0)) }
+{
+    if status_in(window).done {
+        return Err(Refusal::Unacknowledged);
+    }
+    Ok(usize::from(window[OPERATION]))
 }
 
 // Takes the command: it is served once.
@@ -77,6 +88,19 @@ pub(crate) fn begun(window: &mut Window)
     mark(window, later);
 }
 
+// A begin, by its answer.
+pub(crate) fn after_begin(window: &mut Window, answer: Result<(), Refusal>) -> Result<(), Refusal>
+    ensures { (window.new ≡ after_begin window.old 0 answer) × (result ≡ begun_answer answer) }
+{
+    match answer {
+        Ok(()) => {
+            begun(window);
+            Ok(())
+        }
+        Err(cause) => refuse(window, cause),
+    }
+}
+
 // An operation that has ended.
 fn ended(window: &mut Window, response: u16, moved: bool)
     ensures { window.new ≡ ended_in window.old 0 response moved }
@@ -103,6 +127,22 @@ pub(crate) fn stepped(window: &mut Window, progress: Progress)
             moved,
             ..
         } => ended(window, response, moved),
+    }
+}
+
+// A step, by its answer.
+pub(crate) fn after_step(
+    window: &mut Window,
+    answer: Result<Progress, Refusal>,
+) -> Result<(), Refusal>
+    ensures { (window.new ≡ after_step window.old 0 answer) × (result ≡ stepped_answer answer) }
+{
+    match answer {
+        Ok(progress) => {
+            stepped(window, progress);
+            Ok(())
+        }
+        Err(cause) => refuse(window, cause),
     }
 }
 
