@@ -162,7 +162,7 @@ uint64_t drive_start(const uint8_t *file, size_t file_length, uint64_t *cells, s
 /*
  * Begins an operation for a task. Tests 1, 2, 3, 5, 7, 8, then 4 on all entries, also those of other operations and of
  * states that can't be reached, then 11, 9. Writes the task's record, and leaves the row's other records and every cell.
- * Its cost grows with states times operations, and it takes over 1,300 bytes of stack: two arrays for the states that can be
+ * Its cost grows with states times operations, and it takes over 1,400 bytes of stack: two arrays for the states that can be
  * reached.
  */
 uint64_t drive_begin(const uint8_t *file, size_t file_length, drive_task *row, size_t task_count, size_t task,

@@ -152,7 +152,7 @@ pub fn start(file: &[u8], cells: &mut [u64], row: &mut [Task]) -> Result<(), Ref
 /// states that can't be reached, then 11, 9.
 ///
 /// Writes the task's record, and leaves the row's other records. Its cost grows with states times operations, and it takes
-/// over 1,300 bytes of stack: two arrays for the states that can be reached.
+/// over 1,400 bytes of stack: two arrays for the states that can be reached.
 #[inline]
 pub fn begin(file: &[u8], row: &mut [Task], task: usize, operation: usize) -> Result<(), Refusal> {
     answer::accepted(foreign::begin(file, row, task, operation)).map(|_| ())
