@@ -8,7 +8,7 @@ use native.Mathlib.Numerals.{add-one}
 use native.Mathlib.Omega.{arith}
 use borrow.Author.Tests.{lt-ltb, le-ltb, leb-true, leb-false}
 use lib.Dec.{leb}
-use lib.ListN.{length, take, get_or}
+use lib.ListN.{length, take, get_or, length-append}
 use lib.Seq.{take-suc}
 use Rattle.io.specs.Digits.{last_digits, hex_digit_ascii, IsDigitCount}
 use Rattle.bench_lines.specs.Command.{zero_digit}
@@ -60,6 +60,15 @@ hexadecimal_text k n h f =
     let most = most_digits 16 16 n k (omega arith) (omega arith) (λ over. f.2 over) in
     let e : k ≡ 16 = omega (arith, f.0) in
     ap (λ (j : ℕ). last_digits 16 j n) e
+
+digits_length : (b k n : ℕ) → length (last_digits b k n) ≡ k
+digits_length b zero n = refl
+digits_length b (suc k) n = omega (arith, length-append (last_digits b k (n / b)) (hex_digit_ascii (n % b) ∷ []), digits_length b k (n / b))
+
+-- A word has 16 digits.
+pub hexadecimal_most : (n : ℕ) → length (hexadecimal n) ≡ 16
+unfolding hexadecimal
+hexadecimal_most n = digits_length 16 16 n
 
 parted_append : (base : Base) (xs ys : List ℕ) → parted_in base (xs ++ ys) ≡ parted_in base xs ++ parted_in base ys
 unfolding parted_in
