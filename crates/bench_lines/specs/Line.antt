@@ -1,9 +1,10 @@
 -- docs/FORMATS.md, "The bench": the lines that it prints.
-use Rattle.std.specs.Prelude.{cond, List, [], ◌∷◌, ◌++◌, ℕ, zero, suc, ◌+◌, ◌/◌, ◌%◌, ltb, Result, Ok, Err}
+use Rattle.std.specs.Prelude.{cond, List, [], ◌∷◌, ◌++◌, ℕ, zero, suc, ◌+◌, ◌/◌, ◌%◌, ltb, take, Result, Ok, Err}
 use Rattle.io.specs.Digits.{last_digits}
 use Rattle.laws.specs.Bit.{bit}
 use Rattle.refusal.specs.Number.{number_of}
 use Rattle.cells.specs.Count.{mark_count}
+use Rattle.bench_lines.specs.declared.line.Line.{Line}
 use Rattle.bench_lines.specs.declared.text.Base.{Base}
 use Rattle.bench_lines.specs.declared.text.Base.TheVariants.{Decimal, Hexadecimal}
 use Rattle.bench_lines.specs.Command.{space, zero_digit}
@@ -65,3 +66,7 @@ most_cells = 9
 -- Room for the longest line.
 abbrev pub text_size : ℕ
 text_size = 256
+
+-- The bytes of a line that is kept in an array: its first ones.
+abbrev pub line_bytes : {n : ℕ} → Line n → List ℕ
+line_bytes line = take line.len line.bytes

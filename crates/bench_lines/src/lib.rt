@@ -2,5 +2,6 @@
 #![tactic(auto)]
 
 pub mod command;
+pub mod line;
 pub mod reply;
 pub mod text;

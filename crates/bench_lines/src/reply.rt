@@ -1,9 +1,10 @@
 // What a served line is answered with, and the lines that are printed.
 ghost use Rattle.std.specs.Prelude.{◌≡◌, ◌≤◌, length, take};
-ghost use Rattle.bench_lines.specs.Line.{number_line, reply_line, most_cells, cells_line};
+ghost use Rattle.bench_lines.specs.Line.{number_line, reply_line, most_cells, cells_line, line_bytes};
 
 use crate::text;
-use crate::text::{Base, Text};
+pub use crate::text::Text;
+use crate::text::{Base, Draft};
 use refusal::Refusal;
 
 // An accepted begin and a step that answers running print nothing.
@@ -29,18 +30,18 @@ const NEWLINE: u8 = 10;
 // A letter and numbers in decimal.
 fn number_line(letter: u8, values: &[u64]) -> Text
     requires { length values.now ≤ 3 }
-    ensures { result.items ≡ number_line letter values.now }
+    ensures { line_bytes result ≡ number_line letter values.now }
 {
-    let mut line = Text::new();
+    let mut line = Draft::new();
     line.push(letter);
     text::put_fields(&mut line, Base::Decimal, values);
     line.push(NEWLINE);
-    line
+    text::finished(&line)
 }
 
 // The line of a reply or of a refusal; a silent reply has no bytes.
 pub fn reply_line(reply: Result<Reply, Refusal>) -> Text
-    ensures { result.items ≡ reply_line reply }
+    ensures { line_bytes result ≡ reply_line reply }
 {
     match reply {
         Ok(Reply::Silent) => Text::new(),
@@ -65,13 +66,13 @@ pub fn reply_line(reply: Result<Reply, Refusal>) -> Text
 // The line of the cells, of which a run has at most nine: the cells in hex digits, and how many marks are set in them.
 #[tactic(auto, unfolding(crate::specs::Line::cells_line))]
 pub fn cells_line(cells: &[u64]) -> Text
-    ensures { result.items ≡ cells_line (take most_cells cells.now) }
+    ensures { line_bytes result ≡ cells_line (take most_cells cells.now) }
 {
     let shown = &cells[..cells.len().min(MOST_CELLS)];
-    let mut line = Text::new();
+    let mut line = Draft::new();
     line.push(b'm');
     text::put_fields(&mut line, Base::Hexadecimal, shown);
     text::put_field(&mut line, Base::Decimal, cells::count::count_marks(shown));
     line.push(NEWLINE);
-    line
+    text::finished(&line)
 }

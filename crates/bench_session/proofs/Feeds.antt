@@ -7,9 +7,9 @@ use native.Mathlib.Numerals.{add-one}
 use borrow.Author.Tests.{eq-eqb, ne_eqb}
 use lib.ListN.{length, take, get_or}
 use lib.Seq.{take-suc}
-use Rattle.arrayvec.specs.ArrayVec.{ArrayVec}
 use Rattle.bench_session.specs.declared.session.Session.{Session}
-use Rattle.bench_lines.specs.Line.{newline}
+use Rattle.bench_lines.specs.declared.line.Line.{Line}
+use Rattle.bench_lines.specs.Line.{newline, text_size}
 use Rattle.bench_session.specs.Session.{Fed, Consumed, Follows, Yields, Continues, Reached, new_session, keep_byte, end_line, feed_byte, feed, and_then, joined, most_reads}
 
 -- Byte 10 ends a line; any other byte is kept.
@@ -55,7 +55,7 @@ feed_none file fed = refl
 pub follows_as : (session : Session) (fed other : Fed) → fed ≡ other → Follows fed session → Follows other session
 follows_as session fed other e = subst (λ (f : Fed). Follows f session) e
 
-pub yields_as : (session : Session) (text : ArrayVec ℕ) (out other : Consumed) → out ≡ other → Yields session text out → Yields session text other
+pub yields_as : (session : Session) (text : Line text_size) (out other : Consumed) → out ≡ other → Yields session text out → Yields session text other
 yields_as session text out other e = subst (λ (o : Consumed). Yields session text o) e
 
 -- What a session has reached before the first read, and after one read more.

@@ -1,11 +1,11 @@
 -- docs/FORMATS.md, "The bench": what it prints for a table file and an input, line by line, and the same byte by byte.
 use Rattle.std.specs.Prelude.{◌≡◌, Bool, true, false, cond, Option, Some, None, Result, Ok, Err, List, [], ◌∷◌, ◌++◌, ℕ, ◌<◌, eqb, ltb, length}
-use Rattle.arrayvec.specs.ArrayVec.{ArrayVec}
 use Rattle.table.specs.Check.{check_of}
 use Rattle.bench_session.specs.declared.run.Bench.{Bench}
 use Rattle.bench_session.specs.declared.session.Session.{Session}
 use Rattle.bench_lines.specs.Command.{command_of}
-use Rattle.bench_lines.specs.Line.{newline, reply_line}
+use Rattle.bench_lines.specs.declared.line.Line.{Line}
+use Rattle.bench_lines.specs.Line.{newline, reply_line, text_size, line_bytes}
 use Rattle.bench_session.specs.Run.{Printing, unstarted_bench, serve_command}
 use Rattle.table.specs.declared.Shape.{Shape}
 use Rattle.refusal.specs.declared.Refusal.{Refusal}
@@ -106,8 +106,8 @@ abbrev pub longest_line : ℕ
 longest_line = 64
 
 -- A buffer holds the bytes of a line; of a line that is too long there is none.
-abbrev pub Holds : List ℕ → Option (ArrayVec ℕ) → Type 0
-Holds bytes (Some line) = line.items ≡ bytes
+abbrev pub Holds : List ℕ → Option (Line longest_line) → Type 0
+Holds bytes (Some line) = line_bytes line ≡ bytes
 Holds bytes None = longest_line < length bytes
 
 -- A session is what has been fed to it.
@@ -115,13 +115,13 @@ abbrev pub Follows : Fed → Session → Type 0
 Follows fed session = (session.bench ≡ fed.bench) × Holds fed.line session.line
 
 -- The session that is left, and the text that is printed.
-abbrev pub Yields : Session → ArrayVec ℕ → Consumed → Type 0
-Yields session text out = Follows out.fed session × (text.items ≡ out.text)
+abbrev pub Yields : Session → Line text_size → Consumed → Type 0
+Yields session text out = Follows out.fed session × (line_bytes text ≡ out.text)
 
 -- Whether a table is served; if it is, nothing is printed for it, and else a text.
-abbrev pub Reports : Result (Unit {0}) (ArrayVec ℕ) → Result Shape Refusal → Type 0
+abbrev pub Reports : Result (Unit {0}) (Line text_size) → Result Shape Refusal → Type 0
 Reports (Ok served) out = (is_served out ≡ true) × ([] ≡ table_text out)
-Reports (Err text) out = (is_served out ≡ false) × (text.items ≡ table_text out)
+Reports (Err text) out = (is_served out ≡ false) × (line_bytes text ≡ table_text out)
 
 -- ---- The reads of the input
 

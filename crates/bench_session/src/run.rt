@@ -1,5 +1,6 @@
 // The run that lines are served on.
 ghost use Rattle.std.specs.Prelude.{◌≡◌, ◌≤◌};
+ghost use Rattle.bench_lines.specs.Line.{line_bytes};
 ghost use Rattle.bench_session.specs.Run.{unstarted_bench, cell_count, start_bench, begin_reply, begin_bench, step_reply, step_bench, runs_on, finish_bench, cells_printed, act_of, is_start, serve_command};
 
 use bench_lines::command::Command;
@@ -141,7 +142,7 @@ fn finish(file: &[u8], bench: &mut Bench, task: u16) -> Result<Reply, Refusal>
 
 // The line of the run's cells.
 fn held_line(bench: &Bench) -> Text
-    ensures { result.items ≡ (cells_printed bench.now).text }
+    ensures { line_bytes result ≡ (cells_printed bench.now).text }
 {
     let count = cell_count(bench.tasks);
     reply::cells_line(&bench.cells[..count])
@@ -149,7 +150,7 @@ fn held_line(bench: &Bench) -> Text
 
 // Serves a command, with a run for every other one than a start.
 fn act(file: &[u8], bench: &mut Bench, command: Command) -> Text
-    ensures { record { bench = bench.new; text = result.items } ≡ act_of file.now bench.old command }
+    ensures { record { bench = bench.new; text = line_bytes result } ≡ act_of file.now bench.old command }
 {
     let reply = match command {
         Command::Start { tasks } => start(file, bench, tasks),
@@ -171,7 +172,7 @@ fn is_start(command: Command) -> bool
 // Serves a command. Before an accepted start every other one is refused.
 #[tactic(auto, unfolding(crate::specs::Run::serve_command))]
 pub fn serve(file: &[u8], bench: &mut Bench, command: Command) -> Text
-    ensures { record { bench = bench.new; text = result.items } ≡ serve_command file.now bench.old command }
+    ensures { record { bench = bench.new; text = line_bytes result } ≡ serve_command file.now bench.old command }
 {
     if bench.tasks == 0 && !is_start(command) {
         return reply::reply_line(Err(Refusal::Line));

@@ -2,24 +2,24 @@
 ghost use Rattle.std.specs.Prelude.{◌≡◌, List, [], ◌∷◌, ◌++◌, ℕ};
 ghost use Rattle.table.specs.Check.{check_of};
 ghost use Rattle.bench_lines.specs.Command.{command_of};
+ghost use Rattle.bench_lines.specs.Line.{line_bytes};
 ghost use Rattle.bench_session.specs.Session.{Fed, Holds, Follows, Yields, Reports, new_session, end_line, feed_byte, finish_text};
 
 use crate::run;
 use crate::run::Bench;
-use arrayvec::ArrayVec;
 use bench_lines::command::Command;
 use bench_lines::text::Text;
-use bench_lines::{command, reply};
+use bench_lines::{command, line, reply};
 
 const NEWLINE: u8 = 10;
 
 const LONGEST_LINE: usize = 64;
 
 // The bytes of a line that isn't too long.
-pub type Line = ArrayVec<u8, LONGEST_LINE>;
+pub type Line = line::Line<LONGEST_LINE>;
 
 // The bench, and the line that is being read; `None` stands for every line that is too long.
-#[derive(Drop)]
+#[derive(Clone, Copy)]
 pub struct Session {
     pub bench: Bench,
     pub line: Option<Line>,
@@ -83,17 +83,17 @@ pub(crate) fn take_in(file: &[u8], session: &mut Session, byte: u8) -> Text
     if byte == NEWLINE {
         return end_line(file, session);
     }
-    session.line = longer(session.line.take(), byte);
+    session.line = longer(session.line, byte);
     Text::new()
 }
 
 // The end of the input. A line that is not empty is served.
 #[tactic(auto, using(crate::proofs::Ends::none_held, crate::proofs::Ends::some_held))]
 pub(crate) fn finish(file: &[u8], session: &mut Session) -> Text
-    ensures { (fed : Fed) → Follows fed session.old → result.items ≡ finish_text file.now fed }
+    ensures { (fed : Fed) → Follows fed session.old → line_bytes result ≡ finish_text file.now fed }
 {
     if let Some(line) = &session.line
-        && line.is_empty()
+        && line.as_slice().is_empty()
     {
         return Text::new();
     }
