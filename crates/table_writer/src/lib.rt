@@ -34,8 +34,8 @@ fn put_bytes(room: &mut [u8], at: usize, bytes: &[u8])
     }
 }
 
-// Writes an entry at a place of the room: the low byte of each of its numbers.
-fn write_entry(room: &mut [u8], at: usize, entry: Entry)
+// Writes an entry at a place of the largest file: the low byte of each of its numbers.
+fn put_entry(room: &mut [u8], at: usize, entry: Entry)
     requires { at ≤ 2 ^ 33 }
     ensures { room.new ≡ sets room.old at (entry_bytes_of entry) }
 {
@@ -44,8 +44,15 @@ fn write_entry(room: &mut [u8], at: usize, entry: Entry)
     put_bytes(room, at, &[next, response]);
 }
 
-// Writes a trailer at a place of the room.
-fn write_trailer(room: &mut [u8], at: usize, shape: Shape)
+// Writes an entry at a place of the room: the low byte of each of its numbers.
+pub fn write_entry(room: &mut [u8], at: u32, entry: Entry)
+    ensures { room.new ≡ sets room.old at (entry_bytes_of entry) }
+{
+    put_entry(room, at as usize, entry);
+}
+
+// Writes a trailer at a place of the largest file.
+fn put_trailer(room: &mut [u8], at: usize, shape: Shape)
     requires { at + 16 ≤ 2 ^ 33 }
     ensures { room.new ≡ sets room.old at (trailer_of shape) }
 {
@@ -54,6 +61,13 @@ fn write_trailer(room: &mut [u8], at: usize, shape: Shape)
     put_bytes(room, at + 6, &shape.operations.to_le_bytes());
     put_bytes(room, at + 8, &shape.start.to_le_bytes());
     put_bytes(room, at + 10, &table::MARK);
+}
+
+// Writes a trailer at a place of the room.
+pub fn write_trailer(room: &mut [u8], at: u32, shape: Shape)
+    ensures { room.new ≡ sets room.old at (trailer_of shape) }
+{
+    put_trailer(room, at as usize, shape);
 }
 
 // What a file is written from: the shape, and the entry of each state and operation.
@@ -78,7 +92,7 @@ fn write_state<E: Entries>(room: &mut [u8], at: usize, entries: &E, state: u16)
 {
     for operation in 0..entries.shape().operations {
         let entry = entries.entry_at(state, operation);
-        write_entry(room, at + ENTRY_BYTES * usize::from(operation), entry);
+        put_entry(room, at + ENTRY_BYTES * usize::from(operation), entry);
     }
 }
 
@@ -102,5 +116,5 @@ pub fn write_file<E: Entries>(room: &mut [u8], entries: &E)
     write_states(room, entries);
     let shape = entries.shape();
     let end = ENTRY_BYTES * usize::from(shape.states) * usize::from(shape.operations);
-    write_trailer(room, end, shape);
+    put_trailer(room, end, shape);
 }
