@@ -1,73 +1,79 @@
--- What the writer reads in the arrays of the order.
-use mathlib.Core.Path.{◌≡◌, ap, ◌∙◌}
-use mathlib.Core.List.{List}
-use Prim.Native.Nat.{ℕ, suc, ◌-◌, ◌<◌, ◌≤◌}
+-- What the writer reads in the arrays of the order, at every place and for every state.
+use mathlib.Core.Path.{◌≡◌, refl, sym, ap, ◌∙◌}
+use mathlib.Core.List.{List, [], ◌∷◌, ◌++◌}
+use Prim.Native.Nat.{ℕ, zero, suc, ◌+◌, ◌-◌, ◌%◌, ◌<◌, ◌≤◌, min}
+use native.Mathlib.Decide.{dec_lt}
 use native.Mathlib.Omega.{arith}
-use lib.ListN.{length, get_or}
+use lib.ListN.{length, get_or, replicate, get_or-eq_default}
 use Rattle.table.specs.declared.Shape.{Shape}
-use Rattle.table.specs.declared.Entry.{Entry}
-use Rattle.table.specs.Entries.{entry_of}
-use Rattle.table.specs.Layout.{most_states, most_operations}
-use Rattle.table.proofs.Accepted.{accepted_fitting}
-use Rattle.reach.specs.Walk.{next_of}
+use Rattle.table.specs.Layout.{most_states}
 use Rattle.reach.specs.Order.{place_in, order_of}
-use Rattle.reach.proofs.Search.{Closed, next_reached}
-use Rattle.reach.proofs.Turns.{order_few, order_closed}
-use Rattle.reach.proofs.Ordered.{accepted_closed, listed_reachable, reachable_below}
-use Rattle.reach.proofs.Words.{order_words_length, order_words_at, number_words_length, number_words_at, number_listed}
-use Rattle.canonical.specs.Canonical.{renumbered_entry, Numbered}
+use Rattle.reach.specs.Reached.{number_in, order_words, number_words, Distinct}
+use Rattle.reach.proofs.Places.{place_bound, place_holds}
+use Rattle.reach.proofs.Meeting.{distinct_few}
+use Rattle.reach.proofs.Turns.{order_distinct}
+use Rattle.reach.proofs.Words.{number_listed, number_none, number_words_length, number_words_at}
+use Rattle.canonical.specs.Canonical.{Numbered}
+
+-- ---- The arrays of a list
+
+zeros : (n place : ℕ) → ◌≡◌ {A = ℕ} (get_or (replicate n 0) place 0) 0
+zeros zero place = refl
+zeros (suc n) zero = refl
+zeros (suc n) (suc place) = zeros n place
+
+-- Behind the list stands what is read past its end.
+behind : (list : List ℕ) (n place : ℕ) → get_or (list ++ replicate n 0) place 0 ≡ get_or list place 0
+behind [] n place = zeros n place
+behind (first ∷ rest) n zero = refl
+behind (first ∷ rest) n (suc place) = behind rest n place
+
+order_words_read : (list : List ℕ) (place : ℕ) → get_or (order_words list) place 0 ≡ get_or list place 0
+unfolding order_words
+order_words_read list place = behind list (most_states - length list) place
+
+module _ (list : List ℕ) (distinct : Distinct list) (state : ℕ) where
+  -- A state past the array isn't in the list.
+  past : most_states ≤ state → place_in list state ≡ length list
+  past large = by (dec_lt (place_in list state) (length list))
+    where
+      by : Dec (place_in list state < length list) → place_in list state ≡ length list
+      by (yes h) = absurd (omega (arith, place_holds state list h, distinct.small (place_in list state) h))
+      by (no n) = omega (arith, place_bound state list)
+
+  number_words_read : get_or (number_words list) state 0 ≡ number_in list state
+  number_words_read = by (dec_lt state most_states)
+    where
+      by : Dec (state < most_states) → get_or (number_words list) state 0 ≡ number_in list state
+      by (yes h) = number_words_at list state h
+      by (no n) =
+          get_or-eq_default (number_words list) 0 (omega (arith, number_words_length list)) ∙ sym (number_none list state (past (omega arith)))
+
+-- ---- The arrays of the order
 
 module _ {file : List ℕ} {shape : Shape} {order number : List ℕ} (n : Numbered file shape order number) where
   abbrev list : List ℕ
   list = order_of file shape
 
-  closed : Closed file shape
-  closed = accepted_closed file shape n.accepted
-
   pub few : length list ≤ most_states
-  few = omega (arith, order_few file shape closed, closed.few)
+  few = let distinct = order_distinct file shape in distinct_few most_states list distinct.small distinct.once
 
-  pub few_operations : shape.operations ≤ most_operations
-  few_operations = (accepted_fitting file shape n.accepted).few_operations
+  -- The state at a place, and past the arrays there is none.
+  pub state_at : (place : ℕ) → get_or order place 0 ≡ get_or list place 0
+  state_at place = ap (λ (l : List ℕ). get_or l place 0) n.order_is ∙ order_words_read list place
 
-  pub order_long : length order ≡ most_states
-  order_long = ap length n.order_is ∙ order_words_length list few
+  pub state_past : (place : ℕ) → most_states ≤ place → 0 ≡ get_or list place 0
+  state_past place h = sym (get_or-eq_default list 0 (omega (arith, few)))
 
-  pub number_long : length number ≡ most_states
-  number_long = ap length n.number_is ∙ number_words_length list
+  number_at : (state : ℕ) → get_or number state 0 ≡ number_in list state
+  number_at state = ap (λ (l : List ℕ). get_or l state 0) n.number_is ∙ number_words_read list (order_distinct file shape) state
 
-  module _ (place : ℕ) (h : place < length list) where
-    state_at : get_or order place 0 ≡ get_or list place 0
-    state_at = ap (λ (l : List ℕ). get_or l place 0) n.order_is ∙ order_words_at list place h
-
-    module _ (operation : ℕ) (l : operation < shape.operations) where
-      abbrev next : ℕ
-      next = next_of file shape (get_or list place 0) operation
-
-      next_small : next < most_states
-      next_small = omega (arith, closed.few, reachable_below file shape closed next (next_reached file shape (get_or list place 0) operation (listed_reachable file shape closed place h) l))
-
-      number_at : get_or number next 0 ≡ suc (place_in list next)
-      number_at = ap (λ (x : List ℕ). get_or x next 0) n.number_is ∙ number_words_at list next next_small ∙ number_listed list next (order_closed file shape closed place operation h l)
-
-      -- An entry that was read by the arrays, in new numbers.
-      module _ {entry : Entry} (read : entry ≡ entry_of file shape (get_or order place 0) operation) where
-        entry_is : entry ≡ entry_of file shape (get_or list place 0) operation
-        entry_is = read ∙ ap (λ (q : ℕ). entry_of file shape q operation) state_at
-
-        next_is : entry.next ≡ next
-        next_is = ap (λ (e : Entry). e.next) entry_is
-
-        pub read_small : entry.next < most_states
-        read_small = rw next_is next_small
-
-        numbered : get_or number entry.next 0 ≡ suc (place_in list next)
-        numbered = ap (λ (q : ℕ). get_or number q 0) next_is ∙ number_at
-
-        pub read_some : 1 ≤ get_or number entry.next 0
-        read_some = omega (arith, numbered)
-
-        pub read_renumbered : ◌≡◌ {A = Entry} (record { next = get_or number entry.next 0 - 1; response = entry.response }) (renumbered_entry file shape list place operation)
-        read_renumbered =
-            let one : get_or number entry.next 0 - 1 ≡ place_in list next = omega (arith, numbered) in
-            rw (one, entry_is)
+  -- The place of a state is one less than its number; a state that isn't in the order has the number 0.
+  pub place_at : {word : ℕ} (state : ℕ) → word ≡ get_or number state 0 → min ((word + 65535) % 65536) (length list) ≡ place_in list state
+  place_at {word} state read = by (dec_lt (place_in list state) (length list))
+    where
+      by : Dec (place_in list state < length list) → min ((word + 65535) % 65536) (length list) ≡ place_in list state
+      by (yes h) = omega (arith, read, number_at state, number_listed list state h, few)
+      by (no n) =
+          let last : place_in list state ≡ length list = omega (arith, place_bound state list) in
+          omega (arith, read, number_at state, number_none list state last, few)

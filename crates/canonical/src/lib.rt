@@ -2,14 +2,17 @@
 // text (docs/FORMATS.md, "One file for one object").
 #![tactic(auto)]
 
-ghost use Rattle.std.specs.Prelude.{◌≡◌, length, Ok};
+ghost use Rattle.std.specs.Prelude.{◌≡◌, length, get_or, Ok};
 ghost use Rattle.table.specs.Check.{check_of};
-ghost use Rattle.reach.specs.Order.{order_of};
+ghost use Rattle.reach.specs.Order.{place_in, order_of};
 ghost use Rattle.canonical.specs.Canonical.{renumbered_entry, renumbered_shape, canonical_written, Numbered};
 
 use refusal::Refusal;
 use table::{Entry, Shape, Table};
 use table_writer::Entries;
+
+// The length of the arrays.
+const PLACES: u16 = 256;
 
 // An accepted table, and the arrays of its order: what the writer works with.
 #[derive(Clone, Copy)]
@@ -23,6 +26,31 @@ struct Numbering<'a> {
     count: u16,
     ghost numbered: { Numbered table.file.now table.shape order.now number.now },
     ghost counted: { count ≡ length (order_of table.file.now table.shape) },
+}
+
+// A word of an array, 0 past its end.
+fn word_at(words: &[u16], at: u16) -> u16
+    ensures { result ≡ get_or words.now at 0 }
+{
+    words.get(usize::from(at)).copied().unwrap_or(0)
+}
+
+impl Numbering<'_> {
+    // The state with a new number, and 0 for a number that none has. The array is read before the test, so that the writer's
+    // loop over operations has no branch for it.
+    fn state_at(&self, place: u16) -> u16
+        ensures { result ≡ get_or (order_of self.now.table.file.now self.now.table.shape) place 0 }
+    {
+        let state = word_at(self.order, place % PLACES);
+        if place < PLACES { state } else { 0 }
+    }
+
+    // The new number of a state, and the number of states for one that has none: its word is 0, which wraps to more than that.
+    fn place_of(&self, state: u16) -> u16
+        ensures { result ≡ place_in (order_of self.now.table.file.now self.now.table.shape) state }
+    {
+        word_at(self.number, state).wrapping_sub(1).min(self.count)
+    }
 }
 
 impl Entries for Numbering<'_> {
@@ -40,14 +68,10 @@ impl Entries for Numbering<'_> {
     }
 
     // The state is a new number, and so is the next state.
-    #[tactic(auto, using(crate::proofs::Arrays::read_some, crate::proofs::Arrays::read_renumbered))]
     fn entry_at(&self, place: u16, operation: u16) -> Entry {
-        let entry = self
-            .table
-            .read_entry(self.order[usize::from(place)], operation);
-        let next = usize::from(entry.next);
+        let entry = self.table.read_entry(self.state_at(place), operation);
         Entry {
-            next: self.number[next] - 1,
+            next: self.place_of(entry.next),
             response: entry.response,
         }
     }

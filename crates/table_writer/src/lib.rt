@@ -3,7 +3,7 @@
 // Every public function is total: what would stand past the room's end is not written.
 #![tactic(auto)]
 
-ghost use Rattle.std.specs.Prelude.{◌≡◌, ℕ, ◌++◌, ◌+◌, ◌*◌, ◌<◌, ◌≤◌, ◌^◌, set};
+ghost use Rattle.std.specs.Prelude.{◌≡◌, ℕ, ◌++◌, ◌+◌, ◌*◌, ◌≤◌, ◌^◌, set};
 ghost use Rattle.std.proofs.lemmas.List.Edits.{sets};
 ghost use Rattle.table.specs.declared.Shape.{Shape};
 ghost use Rattle.table.specs.declared.Entry.{Entry};
@@ -80,14 +80,13 @@ pub trait Entries {
         ensures { result ≡ shape_of self.now };
 
     fn entry_at(&self, state: u16, operation: u16) -> Entry
-        requires { (state < (shape_of self.now).states) × (operation < (shape_of self.now).operations) }
         ensures { result ≡ entry_of self.now state operation };
 }
 
 // Writes the entries of a state at a place of the room.
 #[tactic(auto, using(laws::proofs::Lists::sets_then, crate::proofs::ReadsBack::state_length), unfolding(laws::specs::Joined::joined))]
 fn write_state<E: Entries>(room: &mut [u8], at: usize, entries: &E, state: u16)
-    requires { (state < (E.shape_of entries.now).states) × (at ≤ 2 * 65535 * 65535) }
+    requires { at ≤ 2 * 65535 * 65535 }
     ensures { room.new ≡ sets room.old at (state_bytes (E.shape_of entries.now).operations (E.entry_of entries.now state)) }
 {
     for operation in 0..entries.shape().operations {
