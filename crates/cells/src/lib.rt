@@ -8,5 +8,5 @@ pub mod count;
 pub mod form;
 pub mod head;
 pub mod image;
-mod layout;
+pub mod layout;
 pub mod marks;
