@@ -30,9 +30,15 @@ const RINGS: Turn = Turn {
     most: 255,
     over: "rings",
 };
+const RINGS_AND_THE_END: Turn = Turn {
+    most: 256,
+    over: "looks at rings and the end of the list",
+    ..RINGS
+};
 
 /// Tests come before the loops: 2 holds states and operations to these numbers, 14 the rings, and 19 the targets to one for
-/// each state. The search for states takes no state twice. Records have no loop: the compiler writes the eight out.
+/// each state. The search for states takes no state twice. Records have no loop: the compiler writes the eight out. A loop that
+/// looks whether it is at the end before each turn begins one turn more than it makes: so does the test of a list of rings.
 const TURNS: [Turns<'static>; 9] = [
     ("drive_check", &[OPERATIONS, STATES_OF_EACH]),
     (
@@ -54,8 +60,8 @@ const TURNS: [Turns<'static>; 9] = [
         "stepping::call::begun_task",
         &[STATES, STATES, OPERATIONS_OF_EACH, STATES],
     ),
-    ("desk_owner", &[RINGS, RINGS]),
-    ("desk_table", &[RINGS, STATES]),
+    ("desk_owner", &[RINGS_AND_THE_END, RINGS]),
+    ("desk_table", &[RINGS_AND_THE_END, STATES]),
 ];
 
 /// Test 19 comes before the first turn, and holds the moves to 4. The code of our turn has that of theirs in it, so it calls
