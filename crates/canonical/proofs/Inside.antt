@@ -14,9 +14,9 @@ use Rattle.reach.specs.Order.{place_in, order_of}
 use Rattle.reach.proofs.Search.{Closed, next_reached}
 use Rattle.reach.proofs.Turns.{order_closed}
 use Rattle.reach.proofs.Ordered.{accepted_closed, listed_reachable, reachable_below}
-use Rattle.reach.proofs.Words.{order_words_length, order_words_at, number_words_length, number_words_at, number_listed}
+use Rattle.reach.proofs.Words.{order_words_length, number_words_length, number_words_at, number_listed}
 use Rattle.canonical.specs.Canonical.{renumbered_entry, Numbered}
-use Rattle.canonical.proofs.Arrays.{few}
+use Rattle.canonical.proofs.Arrays.{few, state_at}
 
 module _ {file : List ℕ} {shape : Shape} {order number : List ℕ} (n : Numbered file shape order number) where
   abbrev list : List ℕ
@@ -35,9 +35,6 @@ module _ {file : List ℕ} {shape : Shape} {order number : List ℕ} (n : Number
   number_long = ap length n.number_is ∙ number_words_length list
 
   module _ (place : ℕ) (h : place < length list) where
-    state_at : get_or order place 0 ≡ get_or list place 0
-    state_at = ap (λ (l : List ℕ). get_or l place 0) n.order_is ∙ order_words_at list place h
-
     module _ (operation : ℕ) (l : operation < shape.operations) where
       abbrev next : ℕ
       next = next_of file shape (get_or list place 0) operation
@@ -51,7 +48,7 @@ module _ {file : List ℕ} {shape : Shape} {order number : List ℕ} (n : Number
       -- An entry that was read by the arrays, in new numbers.
       module _ {entry : Entry} (read : entry ≡ entry_of file shape (get_or order place 0) operation) where
         entry_is : entry ≡ entry_of file shape (get_or list place 0) operation
-        entry_is = read ∙ ap (λ (q : ℕ). entry_of file shape q operation) state_at
+        entry_is = read ∙ ap (λ (q : ℕ). entry_of file shape q operation) (state_at n place)
 
         next_is : entry.next ≡ next
         next_is = ap (λ (e : Entry). e.next) entry_is

@@ -11,7 +11,7 @@ use refusal::Refusal;
 use table::{Entry, Shape, Table};
 use table_writer::Entries;
 
-// The length of the arrays.
+// The length of the array of an order.
 const PLACES: u16 = 256;
 
 // An accepted table, and the arrays of its order: what the writer works with.
