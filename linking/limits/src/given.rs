@@ -24,6 +24,11 @@ const STATES: Turn = Turn {
     most: 256,
     over: "states",
 };
+const STATES_AND_THE_END: Turn = Turn {
+    most: 257,
+    over: "looks at states and their end",
+    ..STATES
+};
 const STATES_OF_EACH: Turn = Turn { depth: 2, ..STATES };
 const RINGS: Turn = Turn {
     depth: 1,
@@ -32,13 +37,14 @@ const RINGS: Turn = Turn {
 };
 const RINGS_AND_THE_END: Turn = Turn {
     most: 256,
-    over: "looks at rings and the end of the list",
+    over: "looks at rings and their end",
     ..RINGS
 };
 
 /// Tests come before the loops: 2 holds states and operations to these numbers, 14 the rings, and 19 the targets to one for
 /// each state. The search for states takes no state twice. Records have no loop: the compiler writes the eight out. A loop that
-/// looks whether it is at the end before each turn begins one turn more than it makes: so does the test of a list of rings.
+/// looks whether it is at the end before each turn begins one turn more than it makes: so do the tests of a list of rings and of
+/// the targets, and the question whether an operation moves some state.
 const TURNS: [Turns<'static>; 9] = [
     ("drive_check", &[OPERATIONS, STATES_OF_EACH]),
     (
@@ -52,13 +58,13 @@ const TURNS: [Turns<'static>; 9] = [
             OPERATIONS_OF_EACH,
         ],
     ),
-    ("drive_force", &[OPERATIONS, STATES_OF_EACH, STATES]),
+    ("drive_force", &[OPERATIONS, STATES_OF_EACH, STATES_AND_THE_END]),
     ("game::our_turn", &[OPERATIONS, OPERATIONS, OPERATIONS_OF_EACH]),
     ("drive_start", &[OPERATIONS, STATES_OF_EACH]),
     ("drive::begin_record", &[OPERATIONS, STATES_OF_EACH]),
     (
         "stepping::call::begun_task",
-        &[STATES, STATES, OPERATIONS_OF_EACH, STATES],
+        &[STATES_AND_THE_END, STATES, OPERATIONS_OF_EACH, STATES],
     ),
     ("desk_owner", &[RINGS_AND_THE_END, RINGS]),
     ("desk_table", &[RINGS_AND_THE_END, STATES]),
