@@ -14,3 +14,5 @@ pub mod Positive
 pub mod Joined
 pub mod Chains
 pub mod Endings
+pub mod Pairs
+pub mod Rows
