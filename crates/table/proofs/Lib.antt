@@ -3,3 +3,4 @@ pub mod Fitting
 pub mod Accepted
 pub mod Answers
 pub mod Cases
+pub mod Flat

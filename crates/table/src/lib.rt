@@ -3,10 +3,11 @@
 // Every function is total: a byte past the file's end reads as 0, and no number wraps for any argument.
 #![tactic(auto)]
 
-ghost use Rattle.std.specs.Prelude.{◌≡◌, ◌-◌, ◌*◌, ◌<◌, ◌^◌};
+ghost use Rattle.std.specs.Prelude.{◌≡◌, ◌-◌, ◌*◌, ◌<◌, ◌^◌, ltb, get_or, take, drop};
+ghost use Rattle.std.specs.List.{list_all};
 ghost use Rattle.table.specs.File.{byte_at, number16, trailer_bytes, ends_in_mark, shape_of};
 ghost use Rattle.table.specs.Layout.{file_length, file_fits, dimensions_fit, length_fits, layout_of};
-ghost use Rattle.table.specs.Entries.{entry_of, entry_in_range, operation_in_range, entries_in_range, moves};
+ghost use Rattle.table.specs.Entries.{entry_of, entry_bytes, entry_in_range, entries_in_range, moves};
 ghost use Rattle.table.specs.Check.{check_of};
 
 use refusal::Refusal;
@@ -145,6 +146,52 @@ pub fn check_layout(file: &[u8]) -> Result<Shape, Refusal>
     Ok(shape)
 }
 
+// Whether the next state of an entry, its first byte, is below a bound.
+fn next_below(entry: &[u8; ENTRY_BYTES], bound: u16) -> bool
+    ensures { result ≡ ltb (get_or entry.now 0 0) bound }
+{
+    u16::from(entry[0]) < bound
+}
+
+// Whether the next states of four entries are below a bound; the last is looked at first.
+fn four_below(four: &[[u8; ENTRY_BYTES]; 4], bound: u16) -> bool
+    ensures { result ≡ list_all (λ entry. ltb (get_or entry 0 0) bound) four.now }
+{
+    next_below(&four[3], bound)
+        && next_below(&four[2], bound)
+        && next_below(&four[1], bound)
+        && next_below(&four[0], bound)
+}
+
+// Whether those of all fours are.
+fn fours_below(fours: &[[[u8; ENTRY_BYTES]; 4]], bound: u16) -> bool
+    ensures { result ≡ list_all (λ four. list_all (λ entry. ltb (get_or entry 0 0) bound) four) fours.now }
+{
+    fours.iter().all(|four| four_below(four, bound))
+}
+
+// Whether those of the entries that are left are.
+fn rest_below(rest: &[[u8; ENTRY_BYTES]], bound: u16) -> bool
+    ensures { result ≡ list_all (λ entry. ltb (get_or entry 0 0) bound) rest.now }
+{
+    rest.iter().all(|entry| next_below(entry, bound))
+}
+
+// Whether those of all entries are: of each four, and of what is left.
+fn next_states_below(entries: &[[u8; ENTRY_BYTES]], bound: u16) -> bool
+    ensures { result ≡ list_all (λ entry. ltb (get_or entry 0 0) bound) entries.now }
+{
+    let (fours, rest) = entries.as_chunks::<4>();
+    fours_below(fours, bound) & rest_below(rest, bound)
+}
+
+// Whether the next state of an entry that the file's end cuts behind it is below a bound; there is none such, or one.
+fn cut_below(cut: &[u8], bound: u16) -> bool
+    ensures { result ≡ list_all (λ next. ltb next bound) cut.now }
+{
+    cut.iter().all(|next| u16::from(*next) < bound)
+}
+
 // A file and its shape.
 #[derive(Clone, Copy)]
 pub struct Table<'a> {
@@ -175,20 +222,23 @@ impl Table<'_> {
         entry.next < self.shape.states
     }
 
-    // Whether cause 4 holds on none of one operation's entries.
-    #[tactic(auto, using(laws::proofs::Chains::all_any), unfolding(crate::specs::Entries::operation_in_range))]
-    fn operation_in_range(&self, operation: u16) -> bool
-        ensures { result ≡ operation_in_range self.now.file.now self.now.shape operation }
+    // The bytes of the entries, as many of them as the file has.
+    fn entries(&self) -> &[u8]
+        ensures { result.now ≡ take (entry_bytes * (self.now.shape.states * self.now.shape.operations)) (drop self.now.shape.offset self.now.file.now) }
     {
-        (0..self.shape.states).all(|state| self.entry_in_range(state, operation))
+        let count = product(self.shape.states, self.shape.operations);
+        let start = self.file.len().min(self.shape.offset as usize);
+        let rest = &self.file[start..];
+        &rest[..rest.len().min(ENTRY_BYTES * count)]
     }
 
     // Whether cause 4 holds on no entry.
-    #[tactic(auto, using(laws::proofs::Chains::all_any), unfolding(crate::specs::Entries::entries_in_range))]
     pub fn entries_in_range(&self) -> bool
         ensures { result ≡ entries_in_range self.now.file.now self.now.shape }
     {
-        (0..self.shape.operations).all(|operation| self.operation_in_range(operation))
+        let (entries, cut) = self.entries().as_chunks::<ENTRY_BYTES>();
+        let states = self.shape.states;
+        next_states_below(entries, states) & cut_below(cut, states)
     }
 
     // Whether an operation leads from a state to another one.

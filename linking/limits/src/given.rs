@@ -29,7 +29,11 @@ const STATES_AND_THE_END: Turn = Turn {
     over: "looks at states and their end",
     ..STATES
 };
-const STATES_OF_EACH: Turn = Turn { depth: 2, ..STATES };
+const FOURS_AND_THE_END: Turn = Turn {
+    depth: 1,
+    most: 2_049,
+    over: "looks at four entries and their end",
+};
 const RINGS: Turn = Turn {
     depth: 1,
     most: 255,
@@ -41,27 +45,19 @@ const RINGS_AND_THE_END: Turn = Turn {
     ..RINGS
 };
 
-/// Tests come before the loops: 2 holds states and operations to these numbers, 14 the rings, and 19 the targets to one for
-/// each state. The search for states takes no state twice. Records have no loop: the compiler writes the eight out. A loop that
-/// looks whether it is at the end before each turn begins one turn more than it makes: so do the tests of a list of rings and of
-/// the targets, and the question whether an operation moves some state.
-const TURNS: [Turns<'static>; 9] = [
-    ("drive_check", &[OPERATIONS, STATES_OF_EACH]),
+/// Tests come before the loops: 2 holds states and operations to these numbers, and so the entries to 8,192, 14 the rings, and
+/// 19 the targets to one for each state. The search for states takes no state twice. Records have no loop: the compiler writes
+/// the eight out. A loop that looks whether it is at the end before each turn begins one turn more than it makes: so do the
+/// tests of a list of rings, of the targets and of the entries, and the question whether an operation moves some state.
+const TURNS: [Turns<'static>; 8] = [
+    ("table::check", &[FOURS_AND_THE_END]),
     (
         "drive_canonical",
-        &[
-            OPERATIONS,
-            STATES_OF_EACH,
-            STATES,
-            OPERATIONS_OF_EACH,
-            STATES,
-            OPERATIONS_OF_EACH,
-        ],
+        &[STATES, OPERATIONS_OF_EACH, STATES, OPERATIONS_OF_EACH],
     ),
-    ("drive_force", &[OPERATIONS, STATES_OF_EACH, STATES_AND_THE_END]),
+    ("drive_force", &[STATES_AND_THE_END]),
     ("game::our_turn", &[OPERATIONS, OPERATIONS, OPERATIONS_OF_EACH]),
-    ("drive_start", &[OPERATIONS, STATES_OF_EACH]),
-    ("drive::begin_record", &[OPERATIONS, STATES_OF_EACH]),
+    ("drive::begin_record", &[FOURS_AND_THE_END]),
     (
         "stepping::call::begun_task",
         &[STATES_AND_THE_END, STATES, OPERATIONS_OF_EACH, STATES],
