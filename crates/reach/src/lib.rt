@@ -42,7 +42,7 @@ pub fn reach_into(table: &Table, order: &mut [u16], number: &mut [u16]) -> u16
     }
     order.fill(0);
     number.fill(0);
-    order::meet_all(table, order, number)
+    order::meet_all(*table, order, number)
 }
 
 // The states of a table that can be reached, by value.
@@ -95,6 +95,6 @@ pub fn is_changing(table: &Table, operation: u16) -> bool
     }
     let mut order = [0; 256];
     let mut number = [0; 256];
-    let count = order::meet_all(table, &mut order, &mut number);
+    let count = order::meet_all(*table, &mut order, &mut number);
     moves_met(table, &order[..usize::from(count)], operation)
 }

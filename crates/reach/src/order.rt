@@ -39,9 +39,9 @@ impl Order<'_> {
 
     // Meets the next states of a state, operations from 0 up.
     #[tactic(auto, using(crate::proofs::Turns::meet_next_zero))]
-    fn meet_next(&mut self, table: &Table, state: u16)
+    fn meet_next(&mut self, table: Table, state: u16)
         requires { KeptIn self.old }
-        ensures { Finds (meet_next table.now.file.now table.now.shape state table.now.shape.operations (met self.old)) self.old self.new }
+        ensures { Finds (meet_next table.entry.file.now table.entry.shape state table.entry.shape.operations (met self.old)) self.old self.new }
     {
         for operation in 0..table.shape.operations {
             let entry = table.read_entry(state, operation);
@@ -52,9 +52,9 @@ impl Order<'_> {
 
 // Meets the start state and gives every state of the order its turn. The arrays are all 0 before.
 #[tactic(auto, using(crate::proofs::Turns::turns_zero, crate::proofs::Turns::order_past))]
-pub(crate) fn meet_all(table: &Table, order: &mut [u16], number: &mut [u16]) -> u16
+pub(crate) fn meet_all(table: Table, order: &mut [u16], number: &mut [u16]) -> u16
     requires { Kept order.old number.old 0 }
-    ensures { Keeps (order_of table.now.file.now table.now.shape) order.new number.new result }
+    ensures { Keeps (order_of table.entry.file.now table.entry.shape) order.new number.new result }
 {
     let mut order = Order {
         states: order,

@@ -10,7 +10,7 @@ use Rattle.reach.proofs.order.Order.meet_next.Goals as goal
 
 pub meet-requires : goal.meet-requires
 meet-requires c =
-    keeps_kept c.loop-operation.invariant.keeps (next_distinct c.args.table.now.file.now c.args.table.now.shape c.args.state _ _ c.requires.distinct)
+    keeps_kept c.loop-operation.invariant.keeps (next_distinct c.args.table.file.now c.args.table.shape c.args.state _ _ c.requires.distinct)
 
 pub loop-operation-preserved : goal.loop-operation-preserved
 loop-operation-preserved c =
@@ -18,10 +18,10 @@ loop-operation-preserved c =
     let l = c.loop-operation in
     let next = ap (λ (e : Entry). e.next) c.read_entry-entry.ensures in
     let more =
-    ap (λ (x : List ℕ). meet x (next_of a.table.now.file.now a.table.now.shape a.state l.operation)) (sym (list_kept l.invariant.keeps))
+    ap (λ (x : List ℕ). meet x (next_of a.table.file.now a.table.shape a.state l.operation)) (sym (list_kept l.invariant.keeps))
     ∙ ap (meet (met l.self)) (sym next) in
     record {
       same_states = c.meet.ensures.same_states ∙ l.invariant.same_states;
       same_number = c.meet.ensures.same_number ∙ l.invariant.same_number;
-      keeps = keeps_same c.meet.ensures.keeps (rw add-one (meet_next_suc a.table.now.file.now a.table.now.shape a.state l.operation _ ∙ more));
+      keeps = keeps_same c.meet.ensures.keeps (rw add-one (meet_next_suc a.table.file.now a.table.shape a.state l.operation _ ∙ more));
     }
